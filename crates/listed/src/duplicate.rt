@@ -1,0 +1,41 @@
+//! Copies that may want memory.
+
+ghost use Rattle.std.specs.Prelude.{◌≡◌, IfOk};
+
+use crate::memory::Memory;
+
+/// A value that can be copied where there is memory for it. The copy is equal to the value.
+pub trait Duplicate: Sized {
+    fn copy(&self) -> Result<Self, Memory>
+        ensures { IfOk result (λ made. made ≡ self.now) };
+}
+
+impl Duplicate for u32 {
+    fn copy(&self) -> Result<u32, Memory> {
+        Ok(*self)
+    }
+}
+
+impl Duplicate for u64 {
+    fn copy(&self) -> Result<u64, Memory> {
+        Ok(*self)
+    }
+}
+
+impl Duplicate for i64 {
+    fn copy(&self) -> Result<i64, Memory> {
+        Ok(*self)
+    }
+}
+
+impl Duplicate for (u32, u32) {
+    fn copy(&self) -> Result<(u32, u32), Memory> {
+        Ok(*self)
+    }
+}
+
+impl Duplicate for (u32, i64) {
+    fn copy(&self) -> Result<(u32, i64), Memory> {
+        Ok(*self)
+    }
+}
