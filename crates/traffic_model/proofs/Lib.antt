@@ -1,0 +1,9 @@
+pub mod KnownValues
+pub mod FlowLaws
+pub mod ShareLaws
+pub mod InflowLaws
+pub mod HeldLaws
+pub mod ConservationLaws
+pub mod DelayLaws
+pub mod LetterLaws
+pub mod TrafficLaws

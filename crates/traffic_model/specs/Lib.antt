@@ -1,0 +1,5 @@
+pub mod Conservation
+pub mod Flow
+pub mod Occupancy
+pub mod Delay
+pub mod Runs
