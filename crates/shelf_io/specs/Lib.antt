@@ -1,0 +1,6 @@
+pub mod Counts
+pub mod Told
+pub mod FileList
+pub mod Front
+pub mod InMemory
+pub mod Messages

@@ -1,0 +1,115 @@
+//! A sink in memory, of which some calls are to fail.
+
+ghost use Rattle.std.specs.Prelude.{◌≡◌, ◌≤◌, [], Some, IsErr, IsTrue, IfOk, OnErr, length, min, take};
+ghost use Rattle.shelf_io.specs.Told.{IsSomeOf};
+ghost use Rattle.shelf_io.specs.InMemory.{is_to_fail, after_take, after_failed_take};
+
+use crate::calls::{CallList, Calls};
+use crate::counts::counted;
+use crate::shelf::Failed;
+use crate::sink::Sink;
+use std::alloc::Global;
+use std::marker::Model;
+
+/// Bytes taken in memory. A call whose number is listed fails, and no call takes more than `most` bytes. Calls
+/// are numbered from 1.
+#[derive(Debug, Drop)]
+pub struct MemorySink {
+    taken: Vec<u8>,
+    calls: Calls,
+    most: usize,
+    faults: u64,
+}
+
+impl Model for MemorySink {
+    ghost use Rattle.std.specs.Prelude.{◌≤◌};
+    ghost use Rattle.shelf_io.specs.InMemory.{SinkInMemory, sink_code};
+
+    ghost Value = { SinkInMemory };
+
+    ghost coded = { sink_code };
+
+    ghost view = { λ sink. record {
+      taken = sink.taken.items;
+      calls = sink.calls.made;
+      failing = sink.calls.failing;
+      most = sink.most;
+      faults = sink.faults;
+    } };
+
+    ghost invariant = { λ sink. 1 ≤ sink.most };
+}
+
+impl MemorySink {
+    /// A sink that took nothing, of which no call was made. It takes no memory.
+    pub fn new(alloc: Global, failing: CallList, most: usize) -> MemorySink
+        requires { 1 ≤ most }
+        ensures { result ≡ record { taken = []; calls = 0; failing = failing; most = most; faults = 0 } }
+    {
+        MemorySink {
+            taken: Vec::new(alloc),
+            calls: Calls::new(failing),
+            most,
+            faults: 0,
+        }
+    }
+
+    /// The bytes that were taken so far.
+    pub fn bytes(&self) -> &[u8]
+        ensures { result.now ≡ self.now.taken }
+    {
+        self.taken.as_slice()
+    }
+}
+
+impl Sink for MemorySink {
+    ghost taken = { λ sink. Some sink.taken };
+
+    ghost faults = { λ sink. sink.faults };
+
+    /// Takes all bytes, but at most `most`. Fails where the call is listed. It may take memory, and where that is
+    /// wanting it fails too.
+    fn take(&mut self, bytes: &[u8]) -> Result<usize, Failed>
+        ensures listed { IsTrue (is_to_fail self.old.calls self.old.failing) → IsErr result }
+        ensures most { IfOk result (λ k. k ≡ min self.old.most (length bytes.now)) }
+        ensures some { IfOk result (IsSomeOf bytes.now) }
+        ensures ok { IfOk result (λ k. self.new ≡ after_take self.old (take k bytes.now)) }
+        ensures err { OnErr result (self.new ≡ after_failed_take self.old) }
+        ensures faults { self.old.faults ≤ self.new.faults }
+    {
+        self.calls.begin(&mut self.faults)?;
+        let count = bytes.len().min(self.most);
+        let outcome = self.taken.extend_from_slice(&bytes[..count]);
+        counted(outcome, &mut self.faults)?;
+        Ok(count)
+    }
+}
+
+#[cfg(test)]
+mod tests {
+    use super::*;
+    use crate::whole_text::put_all;
+    use listed::Listed;
+    use std::test::Fail;
+
+    #[test]
+    fn a_front_is_taken_up_to_the_call_that_fails(rt: HostRuntime) -> Result<(), Fail> {
+        let alloc = rt.alloc();
+        let text = "delay 0\nleft 0\n";
+        for (failing, put, taken) in [
+            (1, Err(Failed), ""),
+            (2, Err(Failed), "dela"),
+            (3, Err(Failed), "delay 0\n"),
+            (5, Ok(()), text),
+        ] {
+            let mut sink = MemorySink::new(alloc, Listed::of(vec![in alloc; failing]?), 4);
+            assert_eq!(rt;
+                put_all(&mut sink, text.as_bytes()),
+                put,
+                "call {failing} fails"
+            );
+            assert_eq!(rt; sink.bytes(), taken.as_bytes(), "call {failing} fails");
+        }
+        Ok(())
+    }
+}
