@@ -1,0 +1,85 @@
+-- Networks worked by hand: two arms that meet behind a signal, and a link with units on it that splits over two. As
+-- `build` answers exactly what the definitions say, these are its answers too.
+use Rattle.std.proofs.Common.{◌≡◌, ℕ, List, [], ◌∷◌, Option, Some, None, codes, refl}
+use Rattle.ct_base.specs.Tables.{sum_below, table_of}
+use Rattle.ct_base.specs.declared.cell.Cell.{Cell}
+use Rattle.ct_base.specs.declared.cell.Gate.{Gate}
+use Rattle.ct_base.specs.declared.cell.Kind.TheVariants.{Road}
+use Rattle.ct_base.specs.declared.cell.Out.{Out}
+use Rattle.ct_base.specs.declared.cell.Out.TheVariants.{Exit, To, Turns}
+use Rattle.network_file.specs.declared.raw.RawNet.{RawNet}
+use Rattle.network_file.specs.declared.raw.RawLink.{RawLink}
+use Rattle.cell_build.specs.Built.{named_of}
+use Rattle.cell_build.specs.Joined.{join_below}
+use Rattle.cell_build.specs.Link.{cells_of_link, cells_of_links}
+use Rattle.cell_build.specs.Refusals.{both_outs, demand_faults, demands, faults_of, fed_queues, initial_units, loops, many_cells, open_merges, phase_rules, twice_turns, unknown_links, unknown_phases, unknown_signals}
+
+-- a link of cells of capacity 3 and storage 5, which leads out of the network
+abbrev road : List ℕ → ℕ → RawLink
+road name cells = record { name = name; cells = cells; cap = 3; store = 5; wave_p = 1; wave_q = 2; to = None; turns = []; signal = None; greens = []; initial = None; pieces = [] }
+
+-- one of its cells
+abbrev cell : Option Gate → Out → ℕ → Cell
+cell gate out initial = record { kind = Road; cap = 3; store = 5; wave_p = 1; wave_q = 2; gate = gate; out = out; initial = initial; demand = [] }
+
+-- a link of one cell that leads into `out` in the green of one phase
+abbrev arm : List ℕ → List ℕ → RawLink
+arm name green = record (road name 1) { to = Some (codes "out"); signal = Some (codes "lights"); greens = green ∷ [] }
+
+-- two arms that meet behind a signal, which starts with its second phase
+abbrev crossing : RawNet
+crossing = record {
+  steps = 4;
+  links = arm (codes "west") (codes "ew") ∷ arm (codes "south") (codes "ns") ∷ road (codes "out") 1 ∷ [];
+  signals = (record {
+    name = codes "lights";
+    start = Some (codes "ns");
+    phases = (record { name = codes "ew"; min = 1; max = 5; clear = 4; next = codes "ns" ∷ [] }) ∷ (record { name = codes "ns"; min = 2; max = 6; clear = 5; next = codes "ew" ∷ [] }) ∷ [];
+  }) ∷ [];
+}
+
+-- a link of two cells with units on them, which splits over a link after it in the file and one before it
+abbrev fork : RawNet
+fork = record {
+  steps = 4;
+  links = road (codes "left") 1
+      ∷ (record (road (codes "stem") 2) { turns = (codes "right", 2) ∷ (codes "left", 1) ∷ []; initial = Some (4 ∷ 1 ∷ []) })
+      ∷ road (codes "right") 1 ∷ [];
+  signals = [];
+}
+
+-- each arm leads into cell 2, behind the one phase of signal 0 that opens it
+pub two_arms_meet_behind_a_signal : named_of crossing ≡ record {
+  net = record {
+    steps = 4;
+    cells = cell (Some (record { signal = 0; greens = 1 })) (To 2) 0 ∷ cell (Some (record { signal = 0; greens = 2 })) (To 2) 0 ∷ cell None Exit 0 ∷ [];
+    signals = (record {
+      start = 1;
+      phases = (record { min = 1; max = 5; clear = 4; next = 2 }) ∷ (record { min = 2; max = 6; clear = 5; next = 1 }) ∷ [];
+    }) ∷ [];
+  };
+  links = codes "west" ∷ codes "south" ∷ codes "out" ∷ [];
+}
+unfolding named_of cells_of_links cells_of_link join_below table_of sum_below
+two_arms_meet_behind_a_signal = refl
+
+-- cell 1 leads to cell 2, which splits: two units of a parcel go to cell 3 and one to cell 0
+pub a_link_splits_over_two : named_of fork ≡ record {
+  net = record {
+    steps = 4;
+    cells = cell None Exit 0 ∷ cell None (To 2) 4 ∷ cell None (Turns ((3, 2) ∷ (0, 1) ∷ [])) 1 ∷ cell None Exit 0 ∷ [];
+    signals = [];
+  };
+  links = codes "left" ∷ codes "stem" ∷ codes "right" ∷ [];
+}
+unfolding named_of cells_of_links cells_of_link join_below table_of sum_below
+a_link_splits_over_two = refl
+
+-- neither has a fault
+pub the_crossing_has_no_fault : faults_of crossing ≡ []
+unfolding unknown_links unknown_signals unknown_phases both_outs loops twice_turns fed_queues open_merges initial_units many_cells demands demand_faults phase_rules join_below sum_below
+the_crossing_has_no_fault = refl
+
+pub the_fork_has_no_fault : faults_of fork ≡ []
+unfolding unknown_links unknown_signals unknown_phases both_outs loops twice_turns fed_queues open_merges initial_units many_cells demands demand_faults phase_rules join_below sum_below
+the_fork_has_no_fault = refl

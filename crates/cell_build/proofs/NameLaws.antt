@@ -1,0 +1,40 @@
+-- The places of names among links, signals and phases.
+use Rattle.std.proofs.Common.{◌≡◌, ℕ, Bool, not, List, [], ◌∷◌, cond, ◌+◌, map, position, refl, ap, sym, ◌||◌, ◌++◌}
+use Rattle.std.specs.List.{list_any, position_or_len}
+use Rattle.std.proofs.lemmas.List.{length-map}
+use Rattle.std.proofs.Math.Bool.{or_assoc}
+use Rattle.std.specs.Str.{bytes_eq}
+use Rattle.network_file.specs.declared.raw.RawLink.{RawLink}
+use Rattle.network_file.specs.declared.raw.RawPhase.{RawPhase}
+use Rattle.network_file.specs.declared.raw.RawSignal.{RawSignal}
+
+-- the same, where the length stands for no place
+position_or_len-map : {X Y : Type 0} (p : Y → Bool) (f : X → Y) (xs : List X) → position_or_len p (map f xs) ≡ position_or_len (λ x. p (f x)) xs
+position_or_len-map p f [] = refl
+position_or_len-map p f (x ∷ xs) = ap (λ n. cond (not (p (f x))) (1 + n) 0) (position_or_len-map p f xs)
+
+-- a test is met at the same place among what a function makes of the elements
+pub position-map : {X Y : Type 0} (p : Y → Bool) (f : X → Y) (xs : List X) → position p (map f xs) ≡ position (λ x. p (f x)) xs
+position-map p f xs = rw (position_or_len-map p f xs, length-map xs f)
+
+-- a name is found among the names of links as among the links
+pub position_link : (name : List ℕ) (links : List RawLink) → position (bytes_eq name) (map (λ (link : RawLink). link.name) links) ≡ position (λ (link : RawLink). bytes_eq name link.name) links
+position_link name links = position-map (bytes_eq name) (λ (link : RawLink). link.name) links
+
+-- likewise of signals
+pub position_signal : (name : List ℕ) (signals : List RawSignal) → position (bytes_eq name) (map (λ (signal : RawSignal). signal.name) signals) ≡ position (λ (signal : RawSignal). bytes_eq name signal.name) signals
+position_signal name signals = position-map (bytes_eq name) (λ (signal : RawSignal). signal.name) signals
+
+-- likewise of phases
+pub position_phase : (name : List ℕ) (phases : List RawPhase) → position (bytes_eq name) (map (λ (phase : RawPhase). phase.name) phases) ≡ position (λ (phase : RawPhase). bytes_eq name phase.name) phases
+position_phase name phases = position-map (bytes_eq name) (λ (phase : RawPhase). phase.name) phases
+
+-- a name is found among the names of branches as among the branches
+pub list_any_turns : (name : List ℕ) (turns : List (List ℕ × ℕ)) → list_any (bytes_eq name) (map (λ (turn : List ℕ × ℕ). turn.0) turns) ≡ list_any (λ (turn : List ℕ × ℕ). bytes_eq name turn.0) turns
+list_any_turns name [] = refl
+list_any_turns name (turn ∷ turns) = rw (list_any_turns name turns)
+
+-- a name is found among two lists where it is found in one
+pub list_any_led_to : (name : List ℕ) (xs ys : List (List ℕ)) → list_any (bytes_eq name) (xs ++ ys) ≡ (list_any (bytes_eq name) xs || list_any (bytes_eq name) ys)
+list_any_led_to name [] ys = refl
+list_any_led_to name (x ∷ xs) ys = rw (list_any_led_to name xs ys) (sym (or_assoc (bytes_eq name x) (list_any (bytes_eq name) xs) (list_any (bytes_eq name) ys)))

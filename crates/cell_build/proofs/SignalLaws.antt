@@ -1,0 +1,131 @@
+-- The signals of a network without a fault, and the gates of its links, keep the rules of a valid network.
+use Rattle.std.proofs.Common.{◌≡◌, ◌≢◌, ℕ, ◌<◌, ◌≤◌, false, List, [], ◌∷◌, length, get_or, Option, Some, None, IfSome, All, refl, sym, ap, ◌∙◌, arith}
+use Rattle.std.specs.List.{list_any}
+use Rattle.std.specs.Str.{bytes_eq}
+use Rattle.std.proofs.lemmas.Bool.{true≢false}
+use Rattle.std.proofs.lemmas.List.{get_or_default, get_or-map, length-map}
+use Rattle.ct_base.specs.Access as base
+use Rattle.ct_base.specs.Tables.{table_of}
+use Rattle.ct_base.specs.Validity.{IsBetween, IsGate, IsPhase, IsSignal}
+use Rattle.ct_base.specs.declared.signal.Signal.{Signal}
+use Rattle.ct_base.proofs.TableLaws.{length-table_of, get_or-table_of}
+use Rattle.network_file.specs.Range.{IsInRange, IsLinkInRange, IsPhaseInRange, IsSignalInRange}
+use Rattle.network_file.specs.declared.raw.RawNet.{RawNet}
+use Rattle.network_file.specs.declared.raw.RawSignal.{RawSignal}
+use Rattle.network_file.specs.declared.raw.RawPhase.{RawPhase}
+use Rattle.cell_build.specs.Built.{phase_built, signal_built, start_among}
+use Rattle.cell_build.specs.Link.{gate_by, gate_of, signal_named}
+use Rattle.cell_build.specs.Names.{is_unknown, link_of, no_phase, no_signal, number_of, phase_names, phase_of, signal_names, signal_of}
+use Rattle.cell_build.specs.Refusals.{is_empty}
+use Rattle.cell_build.proofs.FaultLaws.{HasNoFault, IsPhaseRuled, green_is_known, next_is_known, phase_is_ruled, signal_is_known, start_is_known}
+use Rattle.cell_build.proofs.NumberLaws.{bit_at-set_of, get_or-number_of, not_among, number_within, set_of-lt, set_of-some}
+
+-- a list that is not empty has an element
+some_there : {X : Type 0} (xs : List X) → is_empty xs ≡ false → 0 < length xs
+some_there [] some = absurd (true≢false some)
+some_there (x ∷ xs) some = omega arith
+
+-- signal s of the file, and phase p of it
+signal_in_range : (raw : RawNet) (s : ℕ) → IsInRange raw → s < length raw.signals → IsSignalInRange (signal_of raw.signals s)
+signal_in_range raw s in_range within = in_range.each_signal s no_signal within
+
+-- all that may follow a phase are phases of the signal
+nexts_are_known : (raw : RawNet) (s p : ℕ) → HasNoFault raw → s < length raw.signals → p < length (signal_of raw.signals s).phases →
+    All (λ name. is_unknown (phase_names (signal_of raw.signals s)) name ≡ false) (phase_of (signal_of raw.signals s) p).next
+nexts_are_known raw s p fine within inner = λ j d there.
+    let next = (phase_of (signal_of raw.signals s) p).next in
+    rw (get_or_default next j d [] there) (next_is_known raw s p j fine within inner there)
+
+-- no name that may follow a phase stands for the phase
+follows_another : (names more : List (List ℕ)) (p : ℕ) → All (λ name. is_unknown names name ≡ false) more → list_any (bytes_eq (get_or names p [])) more ≡ false → All (λ name. number_of names name ≢ p) more
+follows_another names more p known none = λ j d there same.
+    not_among (get_or names p []) more j d none there
+    (sym (get_or-number_of names (get_or more j d) [] (known j d there)) ∙ ap (λ k. get_or names k []) same)
+
+-- phase p of signal s
+phase_is_phase : (raw : RawNet) (s p : ℕ) → IsInRange raw → HasNoFault raw → s < length raw.signals → p < length (signal_of raw.signals s).phases →
+    IsPhase (length (signal_of raw.signals s).phases) p (phase_built (phase_names (signal_of raw.signals s)) (phase_of (signal_of raw.signals s) p))
+phase_is_phase raw s p in_range fine within inner =
+    let signal = signal_of raw.signals s in
+    let phase = phase_of signal p in
+    let names = phase_names signal in
+    let limits : IsPhaseInRange phase = (signal_in_range raw s in_range within).each_phase p no_phase inner in
+    let ruled : IsPhaseRuled phase = phase_is_ruled raw s p fine within inner in
+    let known : All (λ name. is_unknown names name ≡ false) phase.next = nexts_are_known raw s p fine within inner in
+    let count : length names ≡ length signal.phases = length-map signal.phases _ in
+    let own : get_or names p [] ≡ phase.name = get_or-map _ signal.phases p no_phase [] inner in
+    let alone : list_any (bytes_eq (get_or names p [])) phase.next ≡ false = ap (λ name. list_any (bytes_eq name) phase.next) own ∙ ruled.not_by_itself in
+    record {
+      min = limits.min;
+      max = (ruled.limits, limits.max.1);
+      clear = limits.clear;
+      followed = set_of-some names phase.next (some_there phase.next ruled.followed);
+      followed_by_phases = rw count at (set_of-lt names phase.next known);
+      not_by_itself = bit_at-set_of names phase.next p (follows_another names phase.next p known alone);
+    }
+
+-- the start of a signal is one of its phases
+start_is_phase : (signal : RawSignal) (start : Option (List ℕ)) → 2 ≤ length signal.phases → ((name : List ℕ) → start ≡ Some name → is_unknown (phase_names signal) name ≡ false) →
+    start_among (phase_names signal) start < length signal.phases
+start_is_phase signal None some known = omega arith
+start_is_phase signal (Some name) some known = omega (arith, number_within (phase_names signal) name (known name refl), length-map signal.phases (λ (phase : RawPhase). phase.name))
+
+-- signal s
+pub signal_is_signal : (raw : RawNet) (s : ℕ) → IsInRange raw → HasNoFault raw → s < length raw.signals → IsSignal (signal_built (signal_of raw.signals s))
+signal_is_signal raw s in_range fine within =
+    let signal = signal_of raw.signals s in
+    let limits : IsSignalInRange signal = signal_in_range raw s in_range within in
+    let build = λ (p : ℕ). phase_built (phase_names signal) (phase_of signal p) in
+    let count : length (table_of (length signal.phases) build) ≡ length signal.phases = length-table_of (length signal.phases) build in
+    record {
+      phases = rw count limits.phases;
+      start = rw count (start_is_phase signal signal.start limits.phases.0 (λ name starts. start_is_known raw s name fine within starts));
+      each = λ p there.
+          let inner : p < length signal.phases = omega arith in
+          let is : base.phase_of (signal_built signal) p ≡ build p = get_or-table_of (length signal.phases) build p base.no_phase inner in
+          rw (count, is) (phase_is_phase raw s p in_range fine within inner);
+    }
+
+-- the greens of a link are phases of its signal
+greens_are_known : (raw : RawNet) (k : ℕ) (name : List ℕ) → HasNoFault raw → k < length raw.links → (link_of raw.links k).signal ≡ Some name →
+    All (λ green. is_unknown (phase_names (signal_named raw.signals name)) green ≡ false) (link_of raw.links k).greens
+greens_are_known raw k name fine within gated = λ j d there.
+    let greens = (link_of raw.links k).greens in
+    rw (get_or_default greens j d [] there) (green_is_known raw k j name fine within gated there)
+
+-- the signals of a network of cells
+abbrev pub signals_of : RawNet → List Signal
+signals_of raw = table_of (length raw.signals) (λ s. signal_built (signal_of raw.signals s))
+
+-- the phases of signal s are as many as the file names
+count_of_phases : (raw : RawNet) (s : ℕ) → s < length raw.signals → length (base.signal_of (signals_of raw) s).phases ≡ length (signal_of raw.signals s).phases
+count_of_phases raw s within =
+    let signal = signal_of raw.signals s in
+    ap (λ (signal : Signal). length signal.phases) (get_or-table_of (length raw.signals) (λ s. signal_built (signal_of raw.signals s)) s base.no_signal within)
+    ∙ length-table_of (length signal.phases) (λ p. phase_built (phase_names signal) (phase_of signal p))
+
+-- a gate by a signal that is known, with some of its phases
+gate_is_gate : (raw : RawNet) (name : List ℕ) (greens : List (List ℕ)) → is_unknown (signal_names raw.signals) name ≡ false → 1 ≤ length greens →
+    All (λ green. is_unknown (phase_names (signal_named raw.signals name)) green ≡ false) greens →
+    IfSome (gate_by raw.signals (Some name) greens) (IsGate (signals_of raw))
+gate_is_gate raw name greens known some greens_known =
+    let s = number_of (signal_names raw.signals) name in
+    let within : s < length raw.signals = omega (arith, number_within (signal_names raw.signals) name known, length-map raw.signals (λ (signal : RawSignal). signal.name)) in
+    let names = phase_names (signal_of raw.signals s) in
+    let count : length (base.signal_of (signals_of raw) s).phases ≡ length names = count_of_phases raw s within ∙ sym (length-map (signal_of raw.signals s).phases _) in
+    record {
+      signal = rw length-table_of within;
+      opens = set_of-some names greens some;
+      phases = rw count (set_of-lt names greens greens_known);
+    }
+
+-- the gate of link k
+pub gate_of_link_is_gate : (raw : RawNet) (k : ℕ) → IsInRange raw → HasNoFault raw → k < length raw.links → IfSome (gate_of raw.signals (link_of raw.links k)) (IsGate (signals_of raw))
+gate_of_link_is_gate raw k in_range fine within = by_signal (link_of raw.links k).signal refl
+  where
+    by_signal : (signal : Option (List ℕ)) → (link_of raw.links k).signal ≡ signal → IfSome (gate_by raw.signals signal (link_of raw.links k).greens) (IsGate (signals_of raw))
+    by_signal None always_open = tt
+    by_signal (Some name) gated =
+        let limits : IsLinkInRange (link_of raw.links k) = in_range.each_link k _ within in
+        let greens : IsBetween 1 16 (length (link_of raw.links k).greens) = limits.greens (rw gated refl) in
+        gate_is_gate raw name (link_of raw.links k).greens (signal_is_known raw k name fine within gated) greens.0 (greens_are_known raw k name fine within gated)

@@ -1,0 +1,15 @@
+use Rattle.std.proofs.Common.{rules, arith}
+use Rattle.cell_build.specs.Names.{no_link}
+use Rattle.cell_build.specs.Places.{initial_units_at}
+use Rattle.cell_build.proofs.Judgements.{item_more, judged_item}
+use Rattle.cell_build.proofs.judge.ranges.initial_units.Goals as goal
+
+pub returns-in_err-initial_units_at : goal.returns-in_err-initial_units_at
+returns-in_err-initial_units_at c =
+    judged_item c.from_residual.result c.in_err-initial_units_at.field-0.0 no_link c.args.links.now c.loop-k.k c.index-links-k.result (initial_units_at)
+    (search rules) (omega arith) c.index-links-k.is c.loop-k.invariant c.in_err-initial_units_at.ensures
+
+pub loop-k-preserved : goal.loop-k-preserved
+loop-k-preserved c =
+    item_more no_link c.args.links.now c.loop-k.k c.index-links-k.result (initial_units_at)
+    (omega arith) c.index-links-k.is c.loop-k.invariant c.in_ok-initial_units_at.ensures

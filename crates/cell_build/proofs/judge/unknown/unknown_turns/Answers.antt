@@ -1,0 +1,15 @@
+use Rattle.std.proofs.Common.{rules, arith, []}
+use Rattle.cell_build.specs.Names.{link_names}
+use Rattle.cell_build.specs.Places.{unknown_turn_at}
+use Rattle.cell_build.proofs.Judgements.{item_more, judged_item}
+use Rattle.cell_build.proofs.judge.unknown.unknown_turns.Goals as goal
+
+pub returns-in_err-unknown_turn_at : goal.returns-in_err-unknown_turn_at
+returns-in_err-unknown_turn_at c =
+    judged_item c.from_residual.result c.in_err-unknown_turn_at.field-0.0 ([], 0) c.args.turns.now c.loop-j.j c.index-turns-j.result (unknown_turn_at (link_names c.args.links.now) c.args.k)
+    (search rules) (omega arith) c.index-turns-j.is c.loop-j.invariant c.in_err-unknown_turn_at.ensures
+
+pub loop-j-preserved : goal.loop-j-preserved
+loop-j-preserved c =
+    item_more ([], 0) c.args.turns.now c.loop-j.j c.index-turns-j.result (unknown_turn_at (link_names c.args.links.now) c.args.k)
+    (omega arith) c.index-turns-j.is c.loop-j.invariant c.in_ok-unknown_turn_at.ensures

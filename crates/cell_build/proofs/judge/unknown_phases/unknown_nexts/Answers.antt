@@ -1,0 +1,15 @@
+use Rattle.std.proofs.Common.{rules, arith, [], map}
+use Rattle.network_file.specs.declared.raw.RawPhase.{RawPhase}
+use Rattle.cell_build.specs.Places.{unknown_next_at}
+use Rattle.cell_build.proofs.Judgements.{item_more, judged_item}
+use Rattle.cell_build.proofs.judge.unknown_phases.unknown_nexts.Goals as goal
+
+pub returns-in_err-unknown_next_at : goal.returns-in_err-unknown_next_at
+returns-in_err-unknown_next_at c =
+    judged_item c.from_residual.result c.in_err-unknown_next_at.field-0.0 [] c.args.next.now c.loop-j.j c.index-next-j.result (unknown_next_at (map (λ (phase : RawPhase). phase.name) c.args.phases.now) c.args.s c.args.p)
+    (search rules) (omega arith) c.index-next-j.is c.loop-j.invariant c.in_err-unknown_next_at.ensures
+
+pub loop-j-preserved : goal.loop-j-preserved
+loop-j-preserved c =
+    item_more [] c.args.next.now c.loop-j.j c.index-next-j.result (unknown_next_at (map (λ (phase : RawPhase). phase.name) c.args.phases.now) c.args.s c.args.p)
+    (omega arith) c.index-next-j.is c.loop-j.invariant c.in_ok-unknown_next_at.ensures

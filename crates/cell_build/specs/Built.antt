@@ -1,0 +1,59 @@
+-- The network of cells that the links and signals of a file become, or why there is none.
+use Rattle.std.specs.Prelude.{◌≡◌, ⊤, ℕ, List, [], ◌∷◌, length, Option, Some, None, Result, Ok, Err}
+use Rattle.ct_base.specs.Tables.{table_of}
+use Rattle.ct_base.specs.declared.net.Net.{Net}
+use Rattle.ct_base.specs.declared.signal.Signal.{Signal}
+use Rattle.ct_base.specs.declared.signal.Phase.{Phase}
+use Rattle.network_file.specs.declared.raw.RawNet.{RawNet}
+use Rattle.network_file.specs.declared.raw.RawSignal.{RawSignal}
+use Rattle.network_file.specs.declared.raw.RawPhase.{RawPhase}
+use Rattle.cell_build.specs.Link.{cells_of_links}
+use Rattle.cell_build.specs.Names.{link_names, number_of, phase_names, phase_of, set_of, signal_of}
+use Rattle.cell_build.specs.Refusals.{faults_of}
+use Rattle.cell_build.specs.declared.fault.BuildFault.{BuildFault}
+use Rattle.cell_build.specs.declared.fault.BuildFault.TheVariants as fault
+
+-- a network of cells, and the names of its links
+pub record Named : Type 0 where
+  pub net : Net
+  pub links : List (List ℕ)
+
+-- a signal of the file with its names as numbers; without `start` it starts with the first phase
+abbrev pub start_among : List (List ℕ) → Option (List ℕ) → ℕ
+start_among names None = 0
+start_among names (Some name) = number_of names name
+
+abbrev pub phase_built : List (List ℕ) → RawPhase → Phase
+phase_built names phase = record { min = phase.min; max = phase.max; clear = phase.clear; next = set_of names phase.next }
+
+abbrev pub signal_built : RawSignal → Signal
+signal_built signal =
+    record { start = start_among (phase_names signal) signal.start; phases = table_of (length signal.phases) (λ p. phase_built (phase_names signal) (phase_of signal p)) }
+
+-- the network that the file's links and signals become
+unfoldable pub named_of : RawNet → Named
+named_of raw =
+    record {
+      net = record { steps = raw.steps; cells = cells_of_links raw.steps raw.signals raw.links (length raw.links); signals = table_of (length raw.signals) (λ s. signal_built (signal_of raw.signals s)) };
+      links = link_names raw.links;
+    }
+
+-- the network, or the first of the faults
+abbrev pub built_unless : List BuildFault → Named → Result Named BuildFault
+built_unless [] named = Ok named
+built_unless (first ∷ faults) named = Err first
+
+unfoldable pub built : RawNet → Result Named BuildFault
+built raw = built_unless (faults_of raw) (named_of raw)
+
+-- an answer is the network or the first fault; want of memory says nothing
+abbrev pub Gives : Result Named BuildFault → Result Named BuildFault → Type 0
+Gives (Err fault.Memory) network = Unit {0}
+Gives (Ok named) network = network ≡ Ok named
+Gives (Err e) network = network ≡ Err e
+
+-- an answer is that there is no fault, or the first one; want of memory says nothing
+abbrev pub Judged : Result ⊤ BuildFault → List BuildFault → Type 0
+Judged (Err fault.Memory) faults = Unit {0}
+Judged (Ok fine) faults = faults ≡ []
+Judged (Err e) faults = (rest : List BuildFault) × (faults ≡ e ∷ rest)

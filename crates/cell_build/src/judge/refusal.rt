@@ -1,0 +1,14 @@
+//! A refusal where a test holds.
+
+ghost use Rattle.cell_build.specs.Built.{Judged};
+ghost use Rattle.cell_build.specs.Refusals.{where_so};
+
+use crate::fault::BuildFault;
+
+/// Refuses with the fault where the test holds.
+#[tactic(auto, using(crate::proofs::Judgements::judged_first))]
+pub(super) fn refuse_where(holds: bool, fault: BuildFault) -> Result<(), BuildFault>
+    ensures { Judged result (where_so holds fault) }
+{
+    if holds { Err(fault) } else { Ok(()) }
+}

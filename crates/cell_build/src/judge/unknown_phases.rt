@@ -1,0 +1,188 @@
+//! Names of phases that their signals do not have: greens of links, starts of signals, phases that may follow.
+
+ghost use Rattle.std.specs.Prelude.{◌≤◌, [], ◌++◌, length, map, All};
+ghost use Rattle.cell_build.specs.Built.{Judged};
+ghost use Rattle.cell_build.specs.Link.{signal_named};
+ghost use Rattle.cell_build.specs.Names.{no_phase, no_signal, phase_names};
+ghost use Rattle.cell_build.specs.Places.{per_item, unknown_green_at, unknown_greens_at, unknown_next_at, unknown_nexts_at, unknown_nexts_of, unknown_start_at};
+ghost use Rattle.cell_build.specs.Refusals.{per_link};
+ghost use Rattle.network_file.specs.Range.{IsLinkInRange, IsPhaseInRange, IsSignalInRange};
+
+use crate::fault::{BuildFault, PhaseAt};
+use crate::judge::refusal::refuse_where;
+use crate::names::{phase_place, phases_named};
+use network_file::{Name, RawLink, RawPhase, RawSignal};
+
+/// Each phase that is named is there: first all greens, then all starts, then all that may follow.
+#[tactic(auto, using(crate::proofs::Judgements::joined))]
+pub(super) fn unknown_phases(signals: &[RawSignal], links: &[RawLink]) -> Result<(), BuildFault>
+    requires few { length links.now ≤ 64 }
+    requires in_range { All IsLinkInRange links.now }
+    requires few_signals { length signals.now ≤ 16 }
+    requires signals_in_range { All IsSignalInRange signals.now }
+    ensures { Judged result (per_link links.now (unknown_greens_at signals.now) ++ per_item no_signal signals.now unknown_start_at ++ per_item no_signal signals.now unknown_nexts_of) }
+{
+    greens_of_links(signals, links)?;
+    unknown_starts(signals)?;
+    nexts_of_signals(signals)
+}
+
+/// The greens of each link are phases of its signal.
+#[tactic(auto, using(crate::proofs::Judgements::places))]
+fn greens_of_links(signals: &[RawSignal], links: &[RawLink]) -> Result<(), BuildFault>
+    requires few { length links.now ≤ 64 }
+    requires in_range { All IsLinkInRange links.now }
+    ensures { Judged result (per_link links.now (unknown_greens_at signals.now)) }
+{
+    for (k, link) in links.iter().enumerate() {
+        unknown_greens_at(signals, k as u32, link)?;
+    }
+    Ok(())
+}
+
+/// The greens of the link are phases of its signal.
+fn unknown_greens_at(signals: &[RawSignal], k: u32, link: &RawLink) -> Result<(), BuildFault>
+    requires in_range { IsLinkInRange link.now }
+    ensures { Judged result (unknown_greens_at signals.now k link.now) }
+{
+    match &link.signal {
+        Some(name) => greens_of_signal(signals, name, k, link.greens.as_slice()),
+        None => Ok(()),
+    }
+}
+
+/// Each green is a phase of the signal of this name.
+fn greens_of_signal(
+    signals: &[RawSignal],
+    name: &Name,
+    k: u32,
+    greens: &[Name],
+) -> Result<(), BuildFault>
+    requires few { length greens.now ≤ 16 }
+    ensures { Judged result (per_item [] greens.now (unknown_green_at (phase_names (signal_named signals.now name.now)) k)) }
+{
+    unknown_greens(phases_named(signals, name.as_str()), k, greens)
+}
+
+/// Each green is one of the phases.
+#[tactic(auto, using(crate::proofs::Judgements::places))]
+fn unknown_greens(phases: &[RawPhase], k: u32, greens: &[Name]) -> Result<(), BuildFault>
+    requires few { length greens.now ≤ 16 }
+    ensures { Judged result (per_item [] greens.now (unknown_green_at (map (λ phase. phase.name) phases.now) k)) }
+{
+    for (j, green) in greens.iter().enumerate() {
+        unknown_green_at(phases, k, j as u32, green)?;
+    }
+    Ok(())
+}
+
+/// The green is one of the phases.
+fn unknown_green_at(phases: &[RawPhase], k: u32, j: u32, green: &Name) -> Result<(), BuildFault>
+    ensures { Judged result (unknown_green_at (map (λ phase. phase.name) phases.now) k j green.now) }
+{
+    refuse_where(
+        phase_place(phases, green.as_str()).is_none(),
+        BuildFault::UnknownPhase {
+            at: PhaseAt::Green(k, j),
+        },
+    )
+}
+
+/// Each signal starts with a phase of its own.
+#[tactic(auto, using(crate::proofs::Judgements::places))]
+fn unknown_starts(signals: &[RawSignal]) -> Result<(), BuildFault>
+    requires few { length signals.now ≤ 16 }
+    ensures { Judged result (per_item no_signal signals.now unknown_start_at) }
+{
+    for (s, signal) in signals.iter().enumerate() {
+        unknown_start_at(s as u32, signal)?;
+    }
+    Ok(())
+}
+
+/// The signal starts with a phase of its own.
+fn unknown_start_at(s: u32, signal: &RawSignal) -> Result<(), BuildFault>
+    ensures { Judged result (unknown_start_at s signal.now) }
+{
+    match &signal.start {
+        Some(name) => refuse_where(
+            phase_place(signal.phases.as_slice(), name.as_str()).is_none(),
+            BuildFault::UnknownPhase {
+                at: PhaseAt::Start(s),
+            },
+        ),
+        None => Ok(()),
+    }
+}
+
+/// What may follow in each signal is a phase of it.
+#[tactic(auto, using(crate::proofs::Judgements::places))]
+fn nexts_of_signals(signals: &[RawSignal]) -> Result<(), BuildFault>
+    requires few { length signals.now ≤ 16 }
+    requires in_range { All IsSignalInRange signals.now }
+    ensures { Judged result (per_item no_signal signals.now unknown_nexts_of) }
+{
+    for (s, signal) in signals.iter().enumerate() {
+        unknown_nexts_of(s as u32, signal)?;
+    }
+    Ok(())
+}
+
+/// What may follow a phase of the signal is a phase of it.
+fn unknown_nexts_of(s: u32, signal: &RawSignal) -> Result<(), BuildFault>
+    requires in_range { IsSignalInRange signal.now }
+    ensures { Judged result (unknown_nexts_of s signal.now) }
+{
+    nexts_of_phases(s, signal.phases.as_slice())
+}
+
+/// What may follow each of the phases is one of them.
+#[tactic(auto, using(crate::proofs::Judgements::places))]
+fn nexts_of_phases(s: u32, phases: &[RawPhase]) -> Result<(), BuildFault>
+    requires few { length phases.now ≤ 8 }
+    requires in_range { All IsPhaseInRange phases.now }
+    ensures { Judged result (per_item no_phase phases.now (unknown_nexts_at (map (λ phase. phase.name) phases.now) s)) }
+{
+    for (p, phase) in phases.iter().enumerate() {
+        unknown_nexts_at(phases, s, p as u32, phase)?;
+    }
+    Ok(())
+}
+
+/// What may follow the phase is one of the phases.
+fn unknown_nexts_at(phases: &[RawPhase], s: u32, p: u32, phase: &RawPhase) -> Result<(), BuildFault>
+    requires in_range { IsPhaseInRange phase.now }
+    ensures { Judged result (unknown_nexts_at (map (λ phase. phase.name) phases.now) s p phase.now) }
+{
+    unknown_nexts(phases, s, p, phase.next.as_slice())
+}
+
+/// Each name is that of one of the phases.
+#[tactic(auto, using(crate::proofs::Judgements::places))]
+fn unknown_nexts(phases: &[RawPhase], s: u32, p: u32, next: &[Name]) -> Result<(), BuildFault>
+    requires few { length next.now ≤ 16 }
+    ensures { Judged result (per_item [] next.now (unknown_next_at (map (λ phase. phase.name) phases.now) s p)) }
+{
+    for (j, name) in next.iter().enumerate() {
+        unknown_next_at(phases, s, p, j as u32, name)?;
+    }
+    Ok(())
+}
+
+/// The name is that of one of the phases.
+fn unknown_next_at(
+    phases: &[RawPhase],
+    s: u32,
+    p: u32,
+    j: u32,
+    name: &Name,
+) -> Result<(), BuildFault>
+    ensures { Judged result (unknown_next_at (map (λ phase. phase.name) phases.now) s p j name.now) }
+{
+    refuse_where(
+        phase_place(phases, name.as_str()).is_none(),
+        BuildFault::UnknownPhase {
+            at: PhaseAt::Next(s, p, j),
+        },
+    )
+}
