@@ -1,0 +1,5 @@
+pub mod Flows
+pub mod Passing
+pub mod Spreading
+pub mod Steps
+pub mod Adding

@@ -1,0 +1,10 @@
+use Rattle.std.proofs.Common.{◌≡◌, length, vec_len}
+use Rattle.traffic_model.specs.Delay.{letters_at}
+use Rattle.cell_replay.proofs.Adding.{IsAt}
+use Rattle.cell_replay.proofs.whole_plan.totals.Given as goal
+
+abbrev pub invariant-loop-step : goal.invariant-loop-step
+invariant-loop-step l = record {
+  run : IsAt l.net (letters_at l.plan.words) l.step l.replay l.delay;
+  letters : vec_len l.letters ≡ length l.plan.words;
+}

@@ -1,0 +1,245 @@
+//! Replays of small networks that were worked by hand.
+
+ghost use Rattle.std.specs.Prelude.{◌≡◌, length, IsTrue};
+ghost use Rattle.ct_base.specs.Validity.{IsValid};
+ghost use Rattle.traffic_model.specs.Runs.{HasWords};
+
+use crate::{Replay, delay, totals};
+use ct_base::{
+    Cell, Gate, Kind, Letter, Listed, Memory, Net, Out, Phase, Plan, Signal, Word, valid,
+};
+use std::alloc::Global;
+use std::process::Abort;
+use std::test::Fail;
+
+/// A queue before the cell with number 1.
+fn queue(alloc: Global, cap: u32, demand: Vec<u32>) -> Cell {
+    Cell {
+        kind: Kind::Queue,
+        cap,
+        store: 0,
+        wave_p: 1,
+        wave_q: 1,
+        gate: None,
+        out: Out::To(1),
+        initial: 0,
+        demand: Listed::of(demand),
+    }
+}
+
+/// A road cell with no gate, whose waves run back at `1 / wave_q` of the free-flow speed.
+fn road(alloc: Global, cap: u32, store: u32, wave_q: u32, initial: u32, out: Out) -> Cell {
+    Cell {
+        kind: Kind::Road,
+        cap,
+        store,
+        wave_p: 1,
+        wave_q,
+        gate: None,
+        out,
+        initial,
+        demand: Listed::new(alloc),
+    }
+}
+
+/// One link of two cells, into which two units come in each of the steps 0 and 1.
+fn one_link(alloc: Global) -> Result<Net, Memory> {
+    let queue = queue(alloc, 2, vec![in alloc; 2, 2, 0, 0, 0]?);
+    let first = road(alloc, 2, 4, 1, 0, Out::To(2));
+    let last = road(alloc, 2, 4, 1, 0, Out::Exit);
+    Ok(Net {
+        steps: 5,
+        cells: Listed::of(vec![in alloc; queue, first, last]?),
+        signals: Listed::new(alloc),
+    })
+}
+
+/// A cell that lets in one unit a step, behind one that lets in two.
+fn bottleneck(alloc: Global) -> Result<Net, Memory> {
+    let queue = queue(alloc, 2, vec![in alloc; 2, 0, 0, 0, 0, 0]?);
+    let first = road(alloc, 2, 4, 1, 0, Out::To(2));
+    let last = road(alloc, 1, 2, 2, 0, Out::Exit);
+    Ok(Net {
+        steps: 6,
+        cells: Listed::of(vec![in alloc; queue, first, last]?),
+        signals: Listed::new(alloc),
+    })
+}
+
+/// Five units before a diverge that sends whole parcels of three.
+fn diverge(alloc: Global) -> Result<Net, Memory> {
+    let turns = Out::Turns(Listed::of(vec![in alloc; (1, 2), (2, 1)]?));
+    let first = road(alloc, 6, 9, 1, 5, turns);
+    let left = road(alloc, 6, 9, 1, 0, Out::Exit);
+    let right = road(alloc, 6, 9, 1, 0, Out::Exit);
+    Ok(Net {
+        steps: 2,
+        cells: Listed::of(vec![in alloc; first, left, right]?),
+        signals: Listed::new(alloc),
+    })
+}
+
+/// A road cell with one unit, which a set of phases of the signal 0 lets into the cell 2.
+fn approach(alloc: Global, greens: u8) -> Cell {
+    let mut cell = road(alloc, 1, 2, 1, 1, Out::To(2));
+    cell.gate = Some(Gate { signal: 0, greens });
+    cell
+}
+
+/// Two approaches that a signal of two phases lets into one cell in turn.
+fn crossing(alloc: Global) -> Result<Net, Memory> {
+    let phase = |next: u8| Phase {
+        min: 1,
+        max: 2,
+        clear: 0,
+        next,
+    };
+    let signal = Signal {
+        start: 0,
+        phases: Listed::of(vec![in alloc; phase(2), phase(1)]?),
+    };
+    let exit = road(alloc, 1, 2, 1, 0, Out::Exit);
+    Ok(Net {
+        steps: 3,
+        cells: Listed::of(vec![in alloc; approach(alloc, 1), approach(alloc, 2), exit]?),
+        signals: Listed::of(vec![in alloc; signal]?),
+    })
+}
+
+/// A plan for a network without signals.
+fn no_plan(alloc: Global) -> Plan {
+    Plan {
+        words: Listed::new(alloc),
+    }
+}
+
+/// A plan of three steps for one signal, by the phases that are green.
+fn green(alloc: Global, phases: [u8; 3]) -> Result<Plan, Memory> {
+    let [a, b, c] = phases;
+    let word = vec![in alloc; Letter::Green(a), Letter::Green(b), Letter::Green(c)]?;
+    Ok(Plan {
+        words: Listed::of(vec![in alloc; Listed::of(word)]?),
+    })
+}
+
+/// Whether a plan has a word for each signal, with a letter for each step.
+fn has_words(net: &Net, plan: &Plan) -> bool
+    ensures { IsTrue result → HasWords net.now plan.now }
+{
+    plan.words.len() == net.signals.len()
+        && plan
+            .words
+            .as_slice()
+            .iter()
+            .all(|word| word.len() == net.steps as usize)
+}
+
+/// The delay of each step of a network without signals.
+fn step_delays(alloc: Global, net: &Net) -> Result<Vec<u64>, Memory>
+    requires valid { IsValid net.now }
+    requires no_signal { length net.now.signals ≡ 0 }
+{
+    let mut replay = Replay::start(alloc, net)?;
+    let mut delays = Vec::new(alloc);
+    for _step in 0..net.steps {
+        delays.push(replay.step(net, &[]).units)?;
+    }
+    Ok(delays)
+}
+
+/// Asserts what a whole plan comes to.
+fn assert_totals<R: Abort + AllocGlobal>(
+    rt: &R,
+    name: &str,
+    net: &Net,
+    plan: &Plan,
+    delay: u64,
+    left: u64,
+) -> Result<(), Fail> {
+    assert!(rt; valid(net), "{name}");
+    assert!(rt; has_words(net, plan), "{name}");
+    let totals = totals(rt.alloc(), net, plan)?;
+    assert_eq!(rt; (totals.delay, totals.left), (delay, left), "{name}");
+    assert_eq!(rt; crate::delay(rt.alloc(), net, plan)?, delay, "{name}");
+    Ok(())
+}
+
+/// Asserts the delay of each step.
+fn assert_step_delays<R: Abort + AllocGlobal>(
+    rt: &R,
+    name: &str,
+    net: &Net,
+    delays: &[u64],
+) -> Result<(), Fail> {
+    assert!(rt; valid(net), "{name}");
+    assert_eq!(rt; net.signals.len(), 0, "{name}");
+    assert_eq!(rt; step_delays(rt.alloc(), net)?.as_slice(), delays, "{name}");
+    Ok(())
+}
+
+#[test]
+fn whole_plans(rt: HostRuntime) -> Result<(), Fail> {
+    let alloc = rt.alloc();
+    let none = no_plan(alloc);
+    assert_totals(&rt, "one link", &one_link(alloc)?, &none, 0, 0)?;
+    assert_totals(&rt, "a bottleneck", &bottleneck(alloc)?, &none, 2, 0)?;
+    assert_totals(&rt, "a diverge", &diverge(alloc)?, &none, 4, 2)?;
+    let crossing = crossing(alloc)?;
+    assert_totals(
+        &rt,
+        "each in turn",
+        &crossing,
+        &green(alloc, [0, 1, 0])?,
+        1,
+        0,
+    )?;
+    assert_totals(
+        &rt,
+        "and then again",
+        &crossing,
+        &green(alloc, [0, 1, 1])?,
+        1,
+        0,
+    )?;
+    assert_totals(
+        &rt,
+        "one waits longer",
+        &crossing,
+        &green(alloc, [0, 0, 1])?,
+        2,
+        1,
+    )
+}
+
+#[test]
+fn steps(rt: HostRuntime) -> Result<(), Fail> {
+    let alloc = rt.alloc();
+    assert_step_delays(&rt, "one link", &one_link(alloc)?, &[0, 0, 0, 0, 0])?;
+    assert_step_delays(
+        &rt,
+        "a bottleneck",
+        &bottleneck(alloc)?,
+        &[0, 0, 1, 1, 0, 0],
+    )?;
+    assert_step_delays(&rt, "a diverge", &diverge(alloc)?, &[2, 2])
+}
+
+#[test]
+fn a_diverge_sends_whole_parcels(rt: HostRuntime) -> Result<(), Fail> {
+    let net = diverge(rt.alloc())?;
+    assert!(rt; valid(&net));
+    assert_eq!(rt; net.steps, 2);
+    assert_eq!(rt; net.cells.len(), 3);
+    assert_eq!(rt; net.signals.len(), 0);
+    let mut replay = Replay::start(rt.alloc(), &net)?;
+    assert_eq!(rt; (replay.now(), replay.left()), (0, 5));
+    let _delay = replay.step(&net, &[]);
+    let held = [
+        replay.occupancy(0),
+        replay.occupancy(1),
+        replay.occupancy(2),
+    ];
+    let left = [replay.outflow(0), replay.outflow(1), replay.outflow(2)];
+    assert_eq!(rt; (replay.now(), held, left), (1, [2, 2, 1], [3, 0, 0]));
+    Ok(())
+}
