@@ -1,0 +1,3 @@
+pub mod ReplayPromises
+pub mod Signals
+pub mod ToldFiles

@@ -1,0 +1,28 @@
+//! The top call: what a run of the program promises, from the words and the bytes of the files to the printed
+//! lines and the status.
+
+ghost use Rattle.signal_cli.specs.Commands.{command_of};
+ghost use Rattle.signal_cli.specs.Promises.{Keeps};
+ghost use Rattle.signal_cli.specs.Worlds.{cabinet, output};
+
+use crate::command::{Command, parse};
+use crate::commands::replay::replay;
+use crate::fault::Fault;
+use crate::output::put_fault;
+use shelf_io::{Shelf, Sink, Words};
+use std::alloc::Global;
+
+/// Runs the command that the words name, and answers the program's status.
+pub fn run<F: Shelf, K: Sink>(alloc: Global, words: &Words, shelf: &mut F, out: &mut K) -> u8
+    ensures { Keeps (command_of words.now)
+        (cabinet (F.files shelf.old) (F.read_faults shelf.old) (F.write_faults shelf.old))
+        (cabinet (F.files shelf.new) (F.read_faults shelf.new) (F.write_faults shelf.new))
+        (output (K.taken out.old) (K.faults out.old))
+        (output (K.taken out.new) (K.faults out.new))
+        result }
+{
+    match parse(words) {
+        Some(Command::Replay { network }) => replay(alloc, network, shelf, out),
+        None => put_fault(out, Fault::Words),
+    }
+}
