@@ -95,7 +95,7 @@ impl Shelf for MemoryShelf {
         ensures err { OnErr result (self.new ≡ after_failed_write self.old) }
         ensures write_faults { self.old.write_faults ≤ self.new.write_faults }
     {
-        self.calls.begin(&mut self.write_faults)?;
+        self.calls.begin(&mut self.write_faults)?; // a call counts whatever comes of it
         counted(self.files.make_empty(name), &mut self.write_faults)
     }
 
