@@ -7,7 +7,7 @@ use listed::{Duplicate, Listed, Memory};
 pub enum Kind {
     /// Units that wait to enter a link. It has no limit of storage.
     Queue,
-    /// A stretch of road, as long as a vehicle travels in one step at free flow.
+    /// A stretch of road whose length a vehicle at free flow covers in one step.
     Road,
 }
 

@@ -10,6 +10,12 @@ pub trait Duplicate: Sized {
         ensures { IfOk result (λ made. made ≡ self.now) };
 }
 
+impl Duplicate for u8 {
+    fn copy(&self) -> Result<u8, Memory> {
+        Ok(*self)
+    }
+}
+
 impl Duplicate for u32 {
     fn copy(&self) -> Result<u32, Memory> {
         Ok(*self)
@@ -28,14 +34,22 @@ impl Duplicate for i64 {
     }
 }
 
-impl Duplicate for (u32, u32) {
-    fn copy(&self) -> Result<(u32, u32), Memory> {
-        Ok(*self)
+impl<A: Duplicate + Drop, B: Duplicate> Duplicate for (A, B) {
+    fn copy(&self) -> Result<(A, B), Memory> {
+        let first = self.0.copy()?;
+        let second = self.1.copy()?;
+        Ok((first, second))
     }
 }
 
-impl Duplicate for (u32, i64) {
-    fn copy(&self) -> Result<(u32, i64), Memory> {
-        Ok(*self)
+impl<T: Duplicate> Duplicate for Option<T> {
+    fn copy(&self) -> Result<Option<T>, Memory> {
+        match self {
+            Some(value) => {
+                let made = value.copy()?;
+                Ok(Some(made))
+            }
+            None => Ok(None),
+        }
     }
 }

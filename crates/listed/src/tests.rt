@@ -29,8 +29,13 @@ fn lists_and_texts_keep_what_is_pushed(rt: HostRuntime) -> Result<(), Fail> {
     assert_eq!(rt; prices.as_slice(), [-7i64, 0, 9].as_slice());
     let turns = copied(alloc, &[(2u32, 1u32), (3, 4)])?;
     assert_eq!(rt; turns.as_slice(), [(2u32, 1u32), (3, 4)].as_slice());
+    let runs = copied(alloc, &[(1u8, 6u32), (0, 2)])?;
+    assert_eq!(rt; runs.as_slice(), [(1u8, 6u32), (0, 2)].as_slice());
     let pairs = copied(alloc, &[(6u32, -1i64), (8, 1)])?;
     assert_eq!(rt; pairs.as_slice(), [(6u32, -1i64), (8, 1)].as_slice());
+
+    let some = copied(alloc, &[Some(4u32), None])?;
+    assert_eq!(rt; some.as_slice(), [Some(4u32), None].as_slice());
 
     let moved = Listed::of(units.into_vec());
     assert_eq!(rt; moved.as_slice(), [3u32, 1, 2].as_slice());

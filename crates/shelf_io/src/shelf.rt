@@ -20,8 +20,8 @@ impl fmt::Display for Failed {
 
 impl Error for Failed {}
 
-/// Files by their names, and two counts of faults that never fall: one of reads, and one of `create` and
-/// `append`. A shelf may tell what its files are or not.
+/// Files by their names. How many reads failed is counted, and apart from it how many calls of `create` and `append`;
+/// neither number ever falls. A shelf may tell what its files are or not.
 pub trait Shelf {
     /// The files, where they are told.
     ghost files: { Self → Option Files };

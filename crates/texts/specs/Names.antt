@@ -1,0 +1,16 @@
+-- Names of links, signals and phases (docs/network-file.md, "Names").
+use Rattle.std.specs.Prelude.{ℕ, Bool, false, ◌&&◌, ◌||◌, nat_le, ◌==◌, List, [], ◌∷◌, length}
+use Rattle.std.specs.List.{list_all}
+
+-- a to z
+abbrev pub is_small_letter : ℕ → Bool
+is_small_letter c = nat_le 97 c && nat_le c 122
+
+-- a character of a name: a to z, 0 to 9 or _
+abbrev pub is_name_character : ℕ → Bool
+is_name_character c = is_small_letter c || (nat_le 48 c && nat_le c 57) || (c == 95)
+
+-- a name: 1 to 24 such characters, of which the first is a letter
+abbrev pub is_name : List ℕ → Bool
+is_name [] = false
+is_name (c ∷ cs) = is_small_letter c && (nat_le (length cs) 23 && list_all is_name_character cs)
