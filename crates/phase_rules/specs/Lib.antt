@@ -1,0 +1,4 @@
+pub mod Expansion
+pub mod Judging
+pub mod Greens
+pub mod Scan

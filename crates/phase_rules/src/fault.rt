@@ -1,0 +1,42 @@
+//! Why runs make no word.
+
+ghost use Rattle.std.specs.Prelude.{◌≡◌};
+ghost use Rattle.phase_rules.specs.declared.fault.RunFault.TheVariants.{Memory as WantOfMemory};
+
+use ct_base::Memory;
+use std::alloc::AllocError;
+
+/// Why runs make no word. Runs are counted from 0. At each run `Surplus`, `Start` or `Order`, and `Green` are judged in this order, and `Short`
+/// after the last run.
+#[derive(Clone, Copy, Debug, PartialEq, Eq)]
+pub enum RunFault {
+    /// The run begins at or after the horizon.
+    Surplus { run: u32 },
+    /// The first run is not of the starting phase.
+    Start,
+    /// A later run is of a phase that may not follow the one before.
+    Order { run: u32 },
+    /// The green is none, longer than its maximum or than what is left of the horizon, or shorter than its minimum
+    /// without being cut by the horizon.
+    Green { run: u32 },
+    /// The runs have fewer letters than the horizon has steps.
+    Short { letters: u32 },
+    /// There was not enough memory.
+    Memory,
+}
+
+impl From<AllocError> for RunFault {
+    ghost from_gives = { λ _ fault. fault ≡ WantOfMemory };
+
+    fn from(_error: AllocError) -> RunFault {
+        RunFault::Memory
+    }
+}
+
+impl From<Memory> for RunFault {
+    ghost from_gives = { λ _ fault. fault ≡ WantOfMemory };
+
+    fn from(_error: Memory) -> RunFault {
+        RunFault::Memory
+    }
+}
