@@ -10,4 +10,4 @@ mod tests;
 mod whole_plan;
 
 pub use replay::{Replay, StepDelay, Totals};
-pub use whole_plan::{delay, totals};
+pub use whole_plan::{delay, prefix_delay, totals};

@@ -4,7 +4,7 @@ ghost use Rattle.std.specs.Prelude.{◌≡◌, length, IsTrue};
 ghost use Rattle.ct_base.specs.Validity.{IsValid};
 ghost use Rattle.traffic_model.specs.Runs.{HasWords};
 
-use crate::{Replay, delay, totals};
+use crate::{Replay, delay, prefix_delay, totals};
 use ct_base::{
     Cell, Gate, Kind, Letter, Listed, Memory, Net, Out, Phase, Plan, Signal, Word, valid,
 };
@@ -222,6 +222,20 @@ fn steps(rt: HostRuntime) -> Result<(), Fail> {
         &[0, 0, 1, 1, 0, 0],
     )?;
     assert_step_delays(&rt, "a diverge", &diverge(alloc)?, &[2, 2])
+}
+
+#[test]
+fn first_steps_of_a_plan(rt: HostRuntime) -> Result<(), Fail> {
+    let alloc = rt.alloc();
+    let net = bottleneck(alloc)?;
+    let none = no_plan(alloc);
+    assert!(rt; valid(&net));
+    assert!(rt; has_words(&net, &none));
+    assert!(rt; net.steps == 6);
+    assert_eq!(rt; prefix_delay(alloc, &net, &none, 0)?, 0);
+    assert_eq!(rt; prefix_delay(alloc, &net, &none, 3)?, 1);
+    assert_eq!(rt; prefix_delay(alloc, &net, &none, 6)?, 2);
+    Ok(())
 }
 
 #[test]

@@ -1,6 +1,6 @@
 //! What a whole plan comes to: its delay, and what is left at the end.
 
-ghost use Rattle.std.specs.Prelude.{◌≡◌, ◌<◌, All, IfOk, length};
+ghost use Rattle.std.specs.Prelude.{◌≡◌, ◌<◌, ◌≤◌, All, IfOk, length};
 ghost use Rattle.ct_base.specs.Validity.{IsValid};
 ghost use Rattle.traffic_model.specs.Delay.{delay_of, left_of, letters_at};
 ghost use Rattle.traffic_model.specs.Runs.{HasWords};
@@ -18,18 +18,7 @@ pub fn totals(alloc: Global, net: &Net, plan: &Plan) -> Result<Totals, Memory>
     ensures left { IfOk result (λ totals. totals.left
         ≡ left_of net.now.cells (letters_at plan.now.words) net.now.steps) }
 {
-    let mut replay = Replay::start(alloc, net)?;
-    let mut letters = vec![in alloc; Letter::Clear(0); plan.words.len()]?;
-    let mut delay = 0;
-    for step in 0..net.steps {
-        let shown = letters.as_mut_slice();
-        show(plan.words.as_slice(), step, shown);
-        delay += replay.step(net, shown).units;
-    }
-    Ok(Totals {
-        delay,
-        left: replay.left(),
-    })
+    totals_of(alloc, net, plan, net.steps)
 }
 
 /// The delay of a plan over all steps of the network, in units times steps.
@@ -40,6 +29,41 @@ pub fn delay(alloc: Global, net: &Net, plan: &Plan) -> Result<u64, Memory>
         ≡ delay_of net.now.cells (letters_at plan.now.words) net.now.steps) }
 {
     Ok(totals(alloc, net, plan)?.delay)
+}
+
+/// The delay of the first so many steps of a plan, in units times steps.
+pub fn prefix_delay(alloc: Global, net: &Net, plan: &Plan, steps: u32) -> Result<u64, Memory>
+    requires valid { IsValid net.now }
+    requires words { HasWords net.now plan.now }
+    requires within { steps ≤ net.now.steps }
+    ensures { IfOk result (λ delay. delay
+        ≡ delay_of net.now.cells (letters_at plan.now.words) steps) }
+{
+    Ok(totals_of(alloc, net, plan, steps)?.delay)
+}
+
+/// Replays the first so many steps of a plan.
+fn totals_of(alloc: Global, net: &Net, plan: &Plan, steps: u32) -> Result<Totals, Memory>
+    requires valid { IsValid net.now }
+    requires words { HasWords net.now plan.now }
+    requires within { steps ≤ net.now.steps }
+    ensures delay { IfOk result (λ totals. totals.delay
+        ≡ delay_of net.now.cells (letters_at plan.now.words) steps) }
+    ensures left { IfOk result (λ totals. totals.left
+        ≡ left_of net.now.cells (letters_at plan.now.words) steps) }
+{
+    let mut replay = Replay::start(alloc, net)?;
+    let mut letters = vec![in alloc; Letter::Clear(0); plan.words.len()]?;
+    let mut delay = 0;
+    for step in 0..steps {
+        let shown = letters.as_mut_slice();
+        show(plan.words.as_slice(), step, shown);
+        delay += replay.step(net, shown).units;
+    }
+    Ok(Totals {
+        delay,
+        left: replay.left(),
+    })
 }
 
 /// Fills in what each signal shows in a step.

@@ -1,7 +1,7 @@
 use Rattle.std.proofs.Common.{◌≡◌, length, vec_len}
 use Rattle.traffic_model.specs.Delay.{letters_at}
 use Rattle.cell_replay.proofs.Adding.{IsAt}
-use Rattle.cell_replay.proofs.whole_plan.totals.Given as goal
+use Rattle.cell_replay.proofs.whole_plan.totals_of.Given as goal
 
 abbrev pub invariant-loop-step : goal.invariant-loop-step
 invariant-loop-step l = record {
