@@ -5,11 +5,12 @@ use Rattle.ct_base.specs.declared.cell.Cell.{Cell}
 use Rattle.ct_base.proofs.TableLaws.{sum_below-fewer, sum_below-suc}
 use Rattle.network_file.specs.declared.raw.RawNet.{RawNet}
 use Rattle.network_file.specs.declared.raw.RawSignal.{RawSignal}
-use Rattle.cell_build.specs.Joined.{join_below}
+use Rattle.refusals.specs.Faults.{join_below}
 use Rattle.cell_build.specs.Link.{cell_count, cells_at, cells_below, cells_of_link, cells_of_links, gate_of, out_by}
 use Rattle.cell_build.specs.Names.{link_of, signal_names}
 use Rattle.cell_build.proofs.FaultLaws.{HasNoFault, cells_are_few, signal_is_known}
-use Rattle.cell_build.proofs.JoinLaws.{join_more, length-join_below}
+use Rattle.refusals.proofs.JoinLaws.{join_below-suc}
+use Rattle.cell_build.proofs.JoinLaws.{length-join_below}
 use Rattle.cell_build.proofs.LinkCells.{length-cells_of_link}
 use Rattle.cell_build.proofs.NumberLaws.{number_within}
 
@@ -20,7 +21,7 @@ cells_none raw = refl
 
 cells_more : (raw : RawNet) (k : ℕ) → cells_of_links raw.steps raw.signals raw.links (k + 1) ≡ cells_of_links raw.steps raw.signals raw.links k ++ cells_at raw.steps raw.signals raw.links k
 unfolding cells_of_links
-cells_more raw k = join_more k (cells_at raw.steps raw.signals raw.links)
+cells_more raw k = join_below-suc k (cells_at raw.steps raw.signals raw.links)
 
 -- as many cells as the links become
 pub length-cells_before : (raw : RawNet) (k : ℕ) → length (cells_of_links raw.steps raw.signals raw.links k) ≡ cells_below raw.links k

@@ -1,53 +1,50 @@
--- Laws of demand: its length, its units at a step, their bound, and one piece more.
-use Rattle.std.proofs.Common.{◌≡◌, ℕ, ◌+◌, ◌*◌, ◌<◌, ◌≤◌, Bool, true, false, if◌then◌else◌, List, [], length, get_or, take, replicate, slice_index, All, sym, ap, ◌∙◌, arith}
-use Rattle.std.proofs.lemmas.List.{length-replicate, get_or-replicate, length-take-le, get_or-take}
-use Rattle.std.proofs.lemmas.List.Sums.{sum_by-le, sum_by_more}
-use Rattle.ct_base.proofs.TableLaws.{length-table_of, slice_index-table_of, fill}
-use Rattle.network_file.specs.Range.{IsPieceInRange}
-use Rattle.network_file.specs.declared.raw.Piece.{Piece}
-use Rattle.cell_build.specs.Demand.{holds, rate_at, spread}
+-- What the demand of a link tells of its faults.
+use Rattle.std.proofs.Common.{◌≡◌, ℕ, zero, suc, List, [], ◌∷◌, length, map, Ok, Err, refl, ap, sym, arith}
+use Rattle.demand.specs.declared.piece.Piece.{Piece}
+use Rattle.demand.specs.declared.fault.DemandFault.{DemandFault}
+use Rattle.demand.specs.declared.fault.DemandFault.TheVariants.{Heavy, Range}
+use Rattle.demand.specs.declared.fault.DemandFault.TheVariants as demand
+use Rattle.demand.specs.Spread.{Gives, faults_of, heavy_faults_at, rates_of, spread}
+use Rattle.refusals.specs.Faults.{join_below}
+use Rattle.refusals.proofs.FirstFaults.{BeginsWith, unless_fine, unless_made, unless_refused}
+use Rattle.cell_build.specs.Built.{IsFirst}
+use Rattle.cell_build.specs.Queues.{fault_of}
+use Rattle.cell_build.specs.declared.fault.BuildFault.{BuildFault}
+use Rattle.cell_build.specs.declared.fault.BuildFault.TheVariants.{Demand}
 
--- one number a step
-pub length-spread : (pieces : List Piece) (steps : ℕ) → length (spread pieces steps) ≡ steps
+-- what is made of a list that begins with a fault begins with what is made of the fault
+map_begins : (k : ℕ) (e : DemandFault) (faults : List DemandFault) → BeginsWith e faults → (rest : List BuildFault) × (map (Demand k) faults ≡ Demand k e ∷ rest)
+map_begins k e faults begins = (map (Demand k) begins.0, ap (map (Demand k)) begins.1)
+
+-- the demand is refused with its first fault
+refused_with : (pieces : List Piece) (steps : ℕ) (e : DemandFault) → spread pieces steps ≡ Err e → BeginsWith e (faults_of pieces steps)
 unfolding spread
-length-spread pieces steps = length-table_of steps (rate_at pieces)
+refused_with pieces steps e refused = unless_refused (faults_of pieces steps) (rates_of pieces steps) e (sym refused)
 
--- the units of a step
-pub slice_index-spread : (pieces : List Piece) (steps t : ℕ) → t < steps → slice_index (spread pieces steps) t ≡ rate_at pieces t
+pub demand_refused : (k : ℕ) (pieces : List Piece) (steps : ℕ) (e : DemandFault) → Gives (Err e) (spread pieces steps) → IsFirst (fault_of k e) (map (Demand k) (faults_of pieces steps))
+demand_refused k pieces steps (Range piece) gives = map_begins k (Range piece) (faults_of pieces steps) (refused_with pieces steps (Range piece) gives)
+demand_refused k pieces steps (Heavy step) gives = map_begins k (Heavy step) (faults_of pieces steps) (refused_with pieces steps (Heavy step) gives)
+demand_refused k pieces steps demand.Memory gives = tt
+
+-- a demand that is given has no fault, and is the sum of the pieces
+pub demand_fine : (k : ℕ) (pieces : List Piece) (steps : ℕ) (units : List ℕ) → spread pieces steps ≡ Ok units → map (Demand k) (faults_of pieces steps) ≡ []
 unfolding spread
-slice_index-spread pieces steps t within = slice_index-table_of steps (rate_at pieces) t within
+demand_fine k pieces steps units given = ap (map (Demand k)) (unless_fine (faults_of pieces steps) (rates_of pieces steps) units (sym given))
 
--- without a piece no units arrive
-pub spread-none : (steps : ℕ) → replicate steps 0 ≡ spread [] steps
+pub demand_made : (pieces : List Piece) (steps : ℕ) (units : List ℕ) → spread pieces steps ≡ Ok units → units ≡ rates_of pieces steps
 unfolding spread
-spread-none steps = fill (replicate steps 0) steps (rate_at []) (length-replicate steps 0) (λ k h. get_or-replicate steps k 0 0 h)
+demand_made pieces steps units given = (unless_made (faults_of pieces steps) (rates_of pieces steps) units (sym given)).1
 
--- what is there under a test is at most what bounds it
-within_bound : (b : Bool) (n m : ℕ) → n ≤ m → (if b then n else 0) ≤ m
-within_bound true n m le = le
-within_bound false n m le = omega arith
+-- where there is no piece, no step is heavy
+no_heavy : (n : ℕ) → join_below n (heavy_faults_at []) ≡ []
+unfolding join_below
+no_heavy zero = refl
+no_heavy (suc n) = rw (no_heavy n)
 
--- a piece adds at most 1000 units to a step
-pub rate_at-le : (pieces : List Piece) (t : ℕ) → All IsPieceInRange pieces → rate_at pieces t ≤ length pieces * 1000
-rate_at-le pieces t in_range =
-    sum_by-le (λ (piece : Piece). if holds piece t then piece.rate else 0) 1000 pieces
-    (λ k d h. within_bound (holds (get_or pieces k d) t) (get_or pieces k d).rate 1000 (in_range k d h).rate)
+none_of_none : (steps : ℕ) → faults_of [] steps ≡ []
+unfolding faults_of join_below
+none_of_none steps = no_heavy steps
 
--- what stands there before each piece is small
-pub spread_is_small : (pieces : List Piece) (i steps t : ℕ) → All IsPieceInRange pieces → length pieces ≤ 480 → i ≤ length pieces → t < steps → slice_index (spread (take i pieces) steps) t ≤ 480000
-spread_is_small pieces i steps t in_range few there within =
-    let front : All IsPieceInRange (take i pieces) = λ k d h.
-    let below : k < i = omega (arith, length-take-le i pieces there) in
-    rw (get_or-take i pieces k d below) (in_range k d (omega arith)) in
-    let bound : rate_at (take i pieces) t ≤ length (take i pieces) * 1000 = rate_at-le (take i pieces) t front in
-    omega (arith, slice_index-spread (take i pieces) steps t within, length-take-le i pieces there)
-
--- one piece more
-pub spread_more : (pieces : List Piece) (i steps : ℕ) (d : Piece) (units : List ℕ) → i < length pieces → length units ≡ steps →
-    ((t : ℕ) → t < steps → slice_index units t ≡ slice_index (spread (take i pieces) steps) t + (if holds (get_or pieces i d) t then (get_or pieces i d).rate else 0)) →
-    units ≡ spread (take (i + 1) pieces) steps
-unfolding spread
-spread_more pieces i steps d units there long same =
-    fill units steps (rate_at (take (i + 1) pieces)) long
-    (λ t h. same t h ∙ ap (λ n. n + (if holds (get_or pieces i d) t then (get_or pieces i d).rate else 0)) (slice_index-table_of steps (rate_at (take i pieces)) t h)
-    ∙ sym (sum_by_more (λ (piece : Piece). if holds piece t then piece.rate else 0) pieces i d there))
+pub no_piece_no_fault : (pieces : List Piece) (steps k : ℕ) → length pieces ≡ 0 → map (Demand k) (faults_of pieces steps) ≡ []
+no_piece_no_fault [] steps k none = ap (map (Demand k)) (none_of_none steps)
+no_piece_no_fault (piece ∷ pieces) steps k none = absurd (omega arith)

@@ -1,23 +1,22 @@
 -- What a network without a fault keeps, rule by rule.
-use Rattle.std.proofs.Common.{◌≡◌, inl, inr, ℕ, ◌+◌, ◌<◌, ◌≤◌, true, false, not, ◌&&◌, ◌||◌, nat_lt, nat_le, ◌==◌, List, [], ◌++◌, length, map, take, get_or, Some, slice_index_or, All, ap, sym, ◌∙◌}
+use Rattle.std.proofs.Common.{◌≡◌, inl, inr, ℕ, ◌+◌, ◌<◌, ◌≤◌, true, false, not, ◌&&◌, ◌||◌, nat_lt, ◌==◌, List, [], ◌++◌, length, map, take, get_or, Some, slice_index_or, All, sym, ◌∙◌}
 use Rattle.std.specs.List.{list_any}
 use Rattle.std.specs.Str.{bytes_eq}
-use Rattle.std.proofs.lemmas.Bool.{and_from, le-leb, leb-false, not_from_true, or_parts, not-false, eqb-true, ltb-false, cases_lt, lt-ltb, false≢true}
-use Rattle.std.proofs.lemmas.List.Folds.{list_any_at, list_any_none}
-use Rattle.std.proofs.lemmas.List.{get_or_default}
-use Rattle.network_file.specs.declared.raw.Piece.{Piece}
+use Rattle.std.proofs.lemmas.Bool.{or_parts, not-false, eqb-true, ltb-false, cases_lt, lt-ltb, false≢true}
+use Rattle.std.proofs.lemmas.List.Folds.{list_any_at}
 use Rattle.network_file.specs.declared.raw.RawNet.{RawNet}
+use Rattle.network_file.specs.declared.raw.RawLink.{RawLink}
 use Rattle.network_file.specs.declared.raw.RawPhase.{RawPhase}
-use Rattle.cell_build.specs.Demand.{has_range_fault, rate_at}
-use Rattle.cell_build.specs.Joined.{join_below}
+use Rattle.demand.specs.Spread.{rate_at, heavy_faults_at, faults_of as demand_faults}
+use Rattle.refusals.specs.Faults.{join_below, where_so}
 use Rattle.cell_build.specs.Link.{cells_below, gate_of, signal_named}
 use Rattle.cell_build.specs.Names.{is_unknown, link_names, link_of, phase_names, phase_of, signal_names, signal_of}
-use Rattle.cell_build.specs.Refusals.{faults_of, unknown_links, unknown_signals, unknown_phases, both_outs, loops, twice_turns, fed_queues, open_merges, initial_units, many_cells, demands, phase_rules, unknown_to, unknown_signal, unknown_greens_of, unknown_start, initial_faults, demand_faults, piece_of, where_so, per_link, per_phase, turn_of, leads_to, feeders, is_empty, are_apart}
+use Rattle.cell_build.specs.Refusals.{faults_of, unknown_links, unknown_signals, unknown_phases, both_outs, loops, twice_turns, fed_queues, open_merges, initial_units, many_cells, demands, phase_rules, unknown_to, unknown_signal, unknown_greens_of, unknown_start, initial_faults, per_link, per_signal, unknown_greens_at, unknown_start_at, unknown_nexts_of, leads_to, feeders, is_empty, are_apart}
 use Rattle.cell_build.specs.declared.fault.BuildFault.{BuildFault}
 use Rattle.cell_build.specs.declared.fault.BuildFault.TheVariants.{UnknownLink, UnknownSignal, UnknownPhase, Itself, TwiceTurn, Fed, OpenMerge, Initial, Cells, Demand, PhaseRule}
-use Rattle.cell_build.specs.declared.fault.DemandFault.TheVariants.{Heavy, Range}
+use Rattle.demand.specs.declared.fault.DemandFault.TheVariants.{Heavy}
 use Rattle.cell_build.specs.declared.fault.PhaseAt.TheVariants.{Green, Start, Next}
-use Rattle.cell_build.proofs.JoinLaws.{append_none, join_none, map_none, where_none}
+use Rattle.refusals.proofs.JoinLaws.{append_none, join_none, map_none, where_none}
 
 -- no rule has a place that breaks it
 pub record HasNoFault (raw : RawNet) : Type 0 where
@@ -62,6 +61,10 @@ has_no_fault raw none =
       phase_rules = eleventh.1;
     }
 
+-- the link that branch j of a link names
+abbrev pub turn_of : RawLink → ℕ → List ℕ
+turn_of link j = (slice_index_or link.turns j ([], 0)).0
+
 -- 1: `to` and each branch name a link
 pub to_is_known : (raw : RawNet) (k : ℕ) (name : List ℕ) → HasNoFault raw → k < length raw.links → (link_of raw.links k).to ≡ Some name → is_unknown (link_names raw.links) name ≡ false
 unfolding unknown_links
@@ -88,14 +91,13 @@ signal_is_known raw k name fine within gated =
 
 -- 3: the phases that are named are there
 abbrev unknown_greens_in : RawNet → List BuildFault
-unknown_greens_in raw = per_link raw.links (λ k link. unknown_greens_of raw.signals k link.signal link.greens)
+unknown_greens_in raw = per_link raw.links (unknown_greens_at raw.signals)
 
 abbrev unknown_starts_in : RawNet → List BuildFault
-unknown_starts_in raw = join_below (length raw.signals) (λ s. unknown_start s (signal_of raw.signals s) (signal_of raw.signals s).start)
+unknown_starts_in raw = per_signal raw.signals unknown_start_at
 
 abbrev unknown_nexts_in : RawNet → List BuildFault
-unknown_nexts_in raw =
-    per_phase raw.signals (λ s p signal phase. join_below (length phase.next) (λ j. where_so (is_unknown (phase_names signal) (slice_index_or phase.next j [])) (UnknownPhase (Next s p j))))
+unknown_nexts_in raw = per_signal raw.signals unknown_nexts_of
 
 phases_are_known : (raw : RawNet) → HasNoFault raw → (unknown_greens_in raw ≡ []) × (unknown_starts_in raw ≡ []) × (unknown_nexts_in raw ≡ [])
 unfolding unknown_phases
@@ -181,33 +183,14 @@ cells_are_few raw fine =
     let count = cells_below raw.links (length raw.links) in
     ltb-false 256 count (where_none (nat_lt 256 count) (Cells count) fine.many_cells)
 
--- 11: each piece holds a step and ends within the horizon
-pub pieces_fit : (raw : RawNet) (k : ℕ) → HasNoFault raw → k < length raw.links → has_range_fault (link_of raw.links k).pieces raw.steps ≡ false
-unfolding demands demand_faults
-pieces_fit raw k fine within =
-    let link = link_of raw.links k in
-    let here : demand_faults link.pieces raw.steps ≡ [] = map_none (Demand k) (demand_faults link.pieces raw.steps) (join_none (length raw.links) _ k fine.demands within) in
-    let unfit = λ (piece : Piece). nat_le piece.until piece.first || nat_lt raw.steps piece.until in
-    let ranges = λ (j : ℕ). where_so (unfit (piece_of link.pieces j)) (Range j) in
-    let early : join_below (length link.pieces) ranges ≡ [] = (append_none _ _ here).0 in
-    list_any_none (λ (piece : Piece). not (nat_lt piece.first piece.until && nat_le piece.until raw.steps)) link.pieces (λ j d there.
-    let piece = get_or link.pieces j d in
-    let fits : unfit (piece_of link.pieces j) ≡ false = where_none (unfit (piece_of link.pieces j)) (Range j) (join_none (length link.pieces) ranges j early there) in
-    let same : unfit piece ≡ false = ap unfit (get_or_default link.pieces j d _ there) ∙ fits in
-    let parts = or_parts (nat_le piece.until piece.first) (nat_lt raw.steps piece.until) same in
-    not_from_true (nat_lt piece.first piece.until && nat_le piece.until raw.steps)
-    (and_from (nat_lt piece.first piece.until) (nat_le piece.until raw.steps)
-    (lt-ltb piece.first piece.until (leb-false piece.until piece.first parts.0)) (le-leb piece.until raw.steps (ltb-false raw.steps piece.until parts.1))))
-
 -- 11: at most 1000 units in a step
 pub step_is_light : (raw : RawNet) (k t : ℕ) → HasNoFault raw → k < length raw.links → t < raw.steps → rate_at (link_of raw.links k).pieces t ≤ 1000
 unfolding demands demand_faults
 step_is_light raw k t fine within there =
     let link = link_of raw.links k in
     let here : demand_faults link.pieces raw.steps ≡ [] = map_none (Demand k) (demand_faults link.pieces raw.steps) (join_none (length raw.links) _ k fine.demands within) in
-    let heavy = λ (t : ℕ). where_so (nat_lt 1000 (rate_at link.pieces t)) (Heavy t) in
-    let later : join_below raw.steps heavy ≡ [] = (append_none _ _ here).1 in
-    ltb-false 1000 (rate_at link.pieces t) (where_none (nat_lt 1000 (rate_at link.pieces t)) (Heavy t) (join_none raw.steps heavy t later there))
+    let later : join_below raw.steps (heavy_faults_at link.pieces) ≡ [] = (append_none _ _ here).1 in
+    ltb-false 1000 (rate_at link.pieces t) (where_none (nat_lt 1000 (rate_at link.pieces t)) (Heavy t) (join_none raw.steps (heavy_faults_at link.pieces) t later there))
 
 -- 12: a phase has a minimum up to its maximum, and some phase other than itself may follow
 pub record IsPhaseRuled (phase : RawPhase) : Type 0 where

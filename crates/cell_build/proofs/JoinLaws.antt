@@ -1,37 +1,10 @@
--- Laws of lists joined end to end: their length, their elements, where an element lies, and when they are empty.
-use Rattle.std.proofs.Common.{◌≡◌, add-one, inl, inr, ℕ, zero, suc, ◌+◌, ◌-◌, ◌<◌, Bool, true, false, List, [], ◌∷◌, ◌++◌, length, map, get_or, refl, ap, ◌∙◌, arith}
+-- Laws of lists joined end to end: their length, their elements, and where an element lies.
+use Rattle.std.proofs.Common.{◌≡◌, inl, inr, ℕ, zero, suc, ◌+◌, ◌-◌, ◌<◌, List, length, get_or, refl, ap, ◌∙◌, arith}
 use Rattle.std.proofs.lemmas.Bool.{cases_eq, cases_lt}
 use Rattle.std.proofs.lemmas.List.{get_or_append_left, get_or-append_right, length-append}
 use Rattle.ct_base.specs.Tables.{sum_below}
 use Rattle.ct_base.proofs.TableLaws.{sum_below-fewer, sum_below-suc}
-use Rattle.cell_build.specs.Joined.{join_below}
-use Rattle.cell_build.specs.Refusals.{where_so}
-
--- an empty list of two parts has empty parts
-pub append_none : {X : Type 0} (xs ys : List X) → xs ++ ys ≡ [] → (xs ≡ []) × (ys ≡ [])
-append_none [] ys none = (refl, none)
-append_none (x ∷ xs) ys none = absurd (cc)
-
--- an empty join has empty parts
-pub join_none : {X : Type 0} (n : ℕ) (f : ℕ → List X) (k : ℕ) → join_below n f ≡ [] → k < n → f k ≡ []
-unfolding join_below
-join_none zero f k none within = absurd (omega arith)
-join_none (suc n) f k none within =
-    let parts = append_none (join_below n f) (f n) none in
-    elim (cases_eq k n) [
-      | inl e ↦ ap f e ∙ parts.1
-      | inr ne ↦ join_none n f k parts.0 (omega arith)
-    ]
-
--- a test that gives no fault does not hold
-pub where_none : {X : Type 0} (holds : Bool) (fault : X) → where_so holds fault ≡ [] → holds ≡ false
-where_none true fault none = absurd (cc)
-where_none false fault none = refl
-
--- what a map makes is empty where the list is
-pub map_none : {X Y : Type 0} (f : X → Y) (xs : List X) → map f xs ≡ [] → xs ≡ []
-map_none f [] none = refl
-map_none f (x ∷ xs) none = absurd (cc)
+use Rattle.refusals.specs.Faults.{join_below}
 
 -- as many elements as all parts
 pub length-join_below : {X : Type 0} (n : ℕ) (f : ℕ → List X) (count : ℕ → ℕ) → ((k : ℕ) → length (f k) ≡ count k) → length (join_below n f) ≡ sum_below n count
@@ -67,8 +40,3 @@ part_of (suc n) count j within =
       | inl before ↦ let part = part_of n count j before in (part.0, part.1, omega (arith, part.2), part.3, part.4)
       | inr here ↦ (n, j - sum_below n count, omega arith, omega arith, omega arith)
     ]
-
--- one part more
-pub join_more : {X : Type 0} (n : ℕ) (f : ℕ → List X) → join_below (n + 1) f ≡ join_below n f ++ f n
-unfolding join_below
-join_more n f = rw add-one

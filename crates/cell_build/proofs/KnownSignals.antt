@@ -4,9 +4,8 @@ use Rattle.std.proofs.lemmas.List.{get_or_default}
 use Rattle.network_file.specs.declared.raw.RawLink.{RawLink}
 use Rattle.network_file.specs.declared.raw.RawSignal.{RawSignal}
 use Rattle.cell_build.specs.Names.{link_of, no_link, signal_names}
-use Rattle.cell_build.specs.Places.{unknown_signal_at}
-use Rattle.cell_build.specs.Refusals.{per_link, unknown_signal}
-use Rattle.cell_build.proofs.JoinLaws.{join_none}
+use Rattle.cell_build.specs.Refusals.{unknown_signal_at, per_link, unknown_signal}
+use Rattle.refusals.proofs.JoinLaws.{join_none}
 
 -- a name without fault is that of a signal
 some_signal : (signals : List RawSignal) (k : ℕ) (signal : Option (List ℕ)) → unknown_signal (signal_names signals) k signal ≡ [] → signal ≢ None → 0 < length signals

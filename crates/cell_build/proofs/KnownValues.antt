@@ -10,9 +10,11 @@ use Rattle.ct_base.specs.declared.cell.Out.TheVariants.{Exit, To, Turns}
 use Rattle.network_file.specs.declared.raw.RawNet.{RawNet}
 use Rattle.network_file.specs.declared.raw.RawLink.{RawLink}
 use Rattle.cell_build.specs.Built.{named_of}
-use Rattle.cell_build.specs.Joined.{join_below}
+use Rattle.refusals.specs.Faults.{join_below}
+use Rattle.cell_build.specs.Naming.{places_of}
 use Rattle.cell_build.specs.Link.{cells_of_link, cells_of_links}
-use Rattle.cell_build.specs.Refusals.{both_outs, demand_faults, demands, faults_of, fed_queues, initial_units, loops, many_cells, open_merges, phase_rules, twice_turns, unknown_links, unknown_phases, unknown_signals}
+use Rattle.cell_build.specs.Refusals.{both_outs, demands, faults_of, fed_queues, initial_units, loops, many_cells, open_merges, phase_rules, twice_turns, unknown_links, unknown_phases, unknown_signals}
+use Rattle.demand.specs.Spread.{faults_of as demand_faults}
 
 -- a link of cells of capacity 3 and storage 5, which leads out of the network
 abbrev road : List ℕ → ℕ → RawLink
@@ -58,9 +60,13 @@ pub two_arms_meet_behind_a_signal : named_of crossing ≡ record {
       phases = (record { min = 1; max = 5; clear = 4; next = 2 }) ∷ (record { min = 2; max = 6; clear = 5; next = 1 }) ∷ [];
     }) ∷ [];
   };
-  links = codes "west" ∷ codes "south" ∷ codes "out" ∷ [];
+  names = record {
+    links = codes "west" ∷ codes "south" ∷ codes "out" ∷ [];
+    signals = (record { name = codes "lights"; phases = codes "ew" ∷ codes "ns" ∷ [] }) ∷ [];
+    places = (record { link = 0; road = Some 0 }) ∷ (record { link = 1; road = Some 0 }) ∷ (record { link = 2; road = Some 0 }) ∷ [];
+  };
 }
-unfolding named_of cells_of_links cells_of_link join_below table_of sum_below
+unfolding named_of places_of cells_of_links cells_of_link join_below table_of sum_below
 two_arms_meet_behind_a_signal = refl
 
 -- cell 1 leads to cell 2, which splits: two units of a parcel go to cell 3 and one to cell 0
@@ -70,9 +76,13 @@ pub a_link_splits_over_two : named_of fork ≡ record {
     cells = cell None Exit 0 ∷ cell None (To 2) 4 ∷ cell None (Turns ((3, 2) ∷ (0, 1) ∷ [])) 1 ∷ cell None Exit 0 ∷ [];
     signals = [];
   };
-  links = codes "left" ∷ codes "stem" ∷ codes "right" ∷ [];
+  names = record {
+    links = codes "left" ∷ codes "stem" ∷ codes "right" ∷ [];
+    signals = [];
+    places = (record { link = 0; road = Some 0 }) ∷ (record { link = 1; road = Some 0 }) ∷ (record { link = 1; road = Some 1 }) ∷ (record { link = 2; road = Some 0 }) ∷ [];
+  };
 }
-unfolding named_of cells_of_links cells_of_link join_below table_of sum_below
+unfolding named_of places_of cells_of_links cells_of_link join_below table_of sum_below
 a_link_splits_over_two = refl
 
 -- neither has a fault

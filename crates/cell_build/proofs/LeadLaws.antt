@@ -10,8 +10,8 @@ use Rattle.network_file.specs.declared.raw.RawNet.{RawNet}
 use Rattle.network_file.specs.declared.raw.RawLink.{RawLink}
 use Rattle.cell_build.specs.Link.{first_road, out_by, road_named}
 use Rattle.cell_build.specs.Names.{is_unknown, link_names, link_of, name_in, no_link, number_of}
-use Rattle.cell_build.specs.Refusals.{leads_to, turn_of}
-use Rattle.cell_build.proofs.FaultLaws.{HasNoFault, branch_is_new, leads_elsewhere, to_is_known, turn_is_known}
+use Rattle.cell_build.specs.Refusals.{leads_to}
+use Rattle.cell_build.proofs.FaultLaws.{turn_of, HasNoFault, branch_is_new, leads_elsewhere, to_is_known, turn_is_known}
 use Rattle.cell_build.proofs.NumberLaws.{get_or-number_of, is_among, not_among, number_within}
 
 -- the link names another by `to` or by a branch

@@ -4,8 +4,6 @@ pub mod DemandLaws
 pub mod FaultLaws
 pub mod FirstLaws
 pub mod JoinLaws
-pub mod JoinedLaws
-pub mod JudgedDemand
 pub mod Judgements
 pub mod KnownSignals
 pub mod KnownValues
@@ -14,9 +12,10 @@ pub mod LinkCells
 pub mod MergeLaws
 pub mod MergeLists
 pub mod NameLaws
+pub mod NamedLaws
 pub mod NetworkLaws
-pub mod NoDemand
 pub mod NumberLaws
+pub mod NumberedLaws
 pub mod PlaceLaws
 pub mod QueueLaws
 pub mod SignalLaws

@@ -12,9 +12,9 @@ use Rattle.ct_base.specs.declared.cell.Out.{Out}
 use Rattle.ct_base.specs.declared.cell.Out.TheVariants.{To}
 use Rattle.ct_base.proofs.TableLaws.{length-table_of, get_or-table_of}
 use Rattle.network_file.specs.Range.{IsLinkInRange}
-use Rattle.network_file.specs.declared.raw.Piece.{Piece}
+use Rattle.demand.specs.declared.piece.Piece.{Piece}
 use Rattle.network_file.specs.declared.raw.RawLink.{RawLink}
-use Rattle.cell_build.specs.Demand.{rate_at, spread}
+use Rattle.demand.specs.Spread.{rate_at, rates_of}
 use Rattle.cell_build.specs.Link.{cell_count, cells_of_link, initial_at, queue_count, queue_of, queues_from, road_of, road_to}
 
 -- a link whose demand is light in each step, and whose units at step 0 have room in each cell
@@ -36,7 +36,7 @@ pub record IsLinkCell (steps first : ℕ) (last : Out) (gate : Option Gate) (lin
 
 -- the queue of a link
 queue_is_queue : (steps first_road : ℕ) (link : RawLink) → IsFit steps link → IsQueue steps (queue_of steps first_road link)
-unfolding spread
+unfolding rates_of
 queue_is_queue steps first_road link fit = record {
   store = refl;
   wave_p = refl;

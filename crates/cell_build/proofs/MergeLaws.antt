@@ -7,7 +7,7 @@ use Rattle.ct_base.specs.Validity.{AreApart}
 use Rattle.ct_base.specs.declared.cell.Gate.{Gate}
 use Rattle.network_file.specs.declared.raw.RawNet.{RawNet}
 use Rattle.network_file.specs.declared.raw.RawLink.{RawLink}
-use Rattle.network_file.specs.declared.raw.Piece.{Piece}
+use Rattle.demand.specs.declared.piece.Piece.{Piece}
 use Rattle.cell_build.specs.Link.{gate_of, queue_count}
 use Rattle.cell_build.specs.Names.{link_of, no_link}
 use Rattle.cell_build.specs.Refusals.{are_apart, feeders, is_apart, is_empty, leads_to}

@@ -1,12 +1,10 @@
--- The places of names among links, signals and phases.
+-- The places of names, and names among others.
 use Rattle.std.proofs.Common.{◌≡◌, ℕ, Bool, not, List, [], ◌∷◌, cond, ◌+◌, map, position, refl, ap, sym, ◌||◌, ◌++◌}
 use Rattle.std.specs.List.{list_any, position_or_len}
 use Rattle.std.proofs.lemmas.List.{length-map}
 use Rattle.std.proofs.Math.Bool.{or_assoc}
 use Rattle.std.specs.Str.{bytes_eq}
-use Rattle.network_file.specs.declared.raw.RawLink.{RawLink}
 use Rattle.network_file.specs.declared.raw.RawPhase.{RawPhase}
-use Rattle.network_file.specs.declared.raw.RawSignal.{RawSignal}
 
 -- the same, where the length stands for no place
 position_or_len-map : {X Y : Type 0} (p : Y → Bool) (f : X → Y) (xs : List X) → position_or_len p (map f xs) ≡ position_or_len (λ x. p (f x)) xs
@@ -17,15 +15,7 @@ position_or_len-map p f (x ∷ xs) = ap (λ n. cond (not (p (f x))) (1 + n) 0) (
 pub position-map : {X Y : Type 0} (p : Y → Bool) (f : X → Y) (xs : List X) → position p (map f xs) ≡ position (λ x. p (f x)) xs
 position-map p f xs = rw (position_or_len-map p f xs, length-map xs f)
 
--- a name is found among the names of links as among the links
-pub position_link : (name : List ℕ) (links : List RawLink) → position (bytes_eq name) (map (λ (link : RawLink). link.name) links) ≡ position (λ (link : RawLink). bytes_eq name link.name) links
-position_link name links = position-map (bytes_eq name) (λ (link : RawLink). link.name) links
-
--- likewise of signals
-pub position_signal : (name : List ℕ) (signals : List RawSignal) → position (bytes_eq name) (map (λ (signal : RawSignal). signal.name) signals) ≡ position (λ (signal : RawSignal). bytes_eq name signal.name) signals
-position_signal name signals = position-map (bytes_eq name) (λ (signal : RawSignal). signal.name) signals
-
--- likewise of phases
+-- a name is found among the names of phases as among the phases
 pub position_phase : (name : List ℕ) (phases : List RawPhase) → position (bytes_eq name) (map (λ (phase : RawPhase). phase.name) phases) ≡ position (λ (phase : RawPhase). bytes_eq name phase.name) phases
 position_phase name phases = position-map (bytes_eq name) (λ (phase : RawPhase). phase.name) phases
 

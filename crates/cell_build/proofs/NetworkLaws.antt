@@ -16,8 +16,8 @@ use Rattle.network_file.specs.declared.raw.RawLink.{RawLink}
 use Rattle.cell_build.specs.Built.{named_of, signal_built}
 use Rattle.cell_build.specs.Link.{cell_count, cells_below, first_road, gate_of, out_by, queue_count, road_named}
 use Rattle.cell_build.specs.Names.{link_names, link_of, number_of, signal_of}
-use Rattle.cell_build.specs.Refusals.{faults_of, leads_to, turn_of}
-use Rattle.cell_build.proofs.FaultLaws.{HasNoFault, cells_are_few, has_no_fault}
+use Rattle.cell_build.specs.Refusals.{faults_of, leads_to}
+use Rattle.cell_build.proofs.FaultLaws.{turn_of, HasNoFault, cells_are_few, has_no_fault}
 use Rattle.cell_build.proofs.LeadLaws.{LeadsInto, branches_differ, named_within, targets_are_roads}
 use Rattle.cell_build.proofs.LinkCells.{IsLinkCell, queue_count-le}
 use Rattle.cell_build.proofs.MergeLaws.{fed_has_no_queue, feeders_apart}

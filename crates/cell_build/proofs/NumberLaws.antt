@@ -9,7 +9,7 @@ use Rattle.std.proofs.lemmas.List.Quantifiers.{position-Some}
 use Rattle.std.proofs.lemmas.Nat.{or_lt, le_or_l, pow_below, pow_pos}
 use Rattle.std.proofs.lemmas.Nat.Bits.{bit_at_or, bit_at-pow_other, bit_at-zero}
 use Rattle.std.proofs.lemmas.Slice.Eq.{bytes_eq-Decides}
-use Rattle.network_file.specs.Schema.{all_differ}
+use Rattle.network_file.specs.Range.{all_differ}
 use Rattle.cell_build.specs.Names.{is_unknown, number_of, set_of}
 
 -- the number of a name that is known is the place of the name

@@ -98,7 +98,7 @@ abbrev pub signals_of : RawNet → List Signal
 signals_of raw = table_of (length raw.signals) (λ s. signal_built (signal_of raw.signals s))
 
 -- the phases of signal s are as many as the file names
-count_of_phases : (raw : RawNet) (s : ℕ) → s < length raw.signals → length (base.signal_of (signals_of raw) s).phases ≡ length (signal_of raw.signals s).phases
+pub count_of_phases : (raw : RawNet) (s : ℕ) → s < length raw.signals → length (base.signal_of (signals_of raw) s).phases ≡ length (signal_of raw.signals s).phases
 count_of_phases raw s within =
     let signal = signal_of raw.signals s in
     ap (λ (signal : Signal). length signal.phases) (get_or-table_of (length raw.signals) (λ s. signal_built (signal_of raw.signals s)) s base.no_signal within)

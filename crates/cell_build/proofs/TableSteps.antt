@@ -16,10 +16,6 @@ table_step n f xs x before here = rw (table_of-suc, before, here) refl
 pub item_at : {X : Type 0} (items xs : List X) (k : ℕ) (x d : X) → items ≡ xs → k < length items → x ≡ get_or items k x → x ≡ get_or xs k d
 item_at items xs k x d same within is = get_or_read items k x within is d ∙ ap (λ items. get_or items k d) same
 
--- the same where the place is known to be within the list of the other name
-pub item_of : {X : Type 0} (items xs : List X) (k : ℕ) (x d : X) → items ≡ xs → k < length xs → x ≡ get_or items k x → x ≡ get_or xs k d
-item_of items xs k x d same within is = item_at items xs k x d same (rw same within) is
-
 -- a table behind other elements: no element of it, and one more
 pub behind_none : {X : Type 0} (before : List X) (f : ℕ → X) → before ≡ before ++ table_of 0 f
 behind_none before f = rw (table_of-zero, append-nil) refl

@@ -1,8 +1,8 @@
 pub mod Built
-pub mod Demand
 pub mod Firsts
-pub mod Joined
 pub mod Link
 pub mod Names
-pub mod Places
+pub mod Naming
+pub mod Numbered
+pub mod Queues
 pub mod Refusals

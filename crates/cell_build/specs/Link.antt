@@ -6,11 +6,11 @@ use Rattle.ct_base.specs.declared.cell.Gate.{Gate}
 use Rattle.ct_base.specs.declared.cell.Kind.TheVariants.{Queue, Road}
 use Rattle.ct_base.specs.declared.cell.Out.{Out}
 use Rattle.ct_base.specs.declared.cell.Out.TheVariants.{Exit, To, Turns}
-use Rattle.network_file.specs.declared.raw.Piece.{Piece}
+use Rattle.demand.specs.declared.piece.Piece.{Piece}
 use Rattle.network_file.specs.declared.raw.RawLink.{RawLink}
 use Rattle.network_file.specs.declared.raw.RawSignal.{RawSignal}
-use Rattle.cell_build.specs.Demand.{spread}
-use Rattle.cell_build.specs.Joined.{join_below}
+use Rattle.demand.specs.Spread.{rates_of}
+use Rattle.refusals.specs.Faults.{join_below}
 use Rattle.cell_build.specs.Names.{link_names, link_of, number_of, phase_names, set_of, signal_names, signal_of}
 
 -- a link with a piece of demand begins with one queue
@@ -64,7 +64,7 @@ queue_to out demand link =
 
 -- the queue, which leads to the road cell after it
 abbrev pub queue_of : ℕ → ℕ → RawLink → Cell
-queue_of steps first_road link = queue_to (To first_road) (spread link.pieces steps) link
+queue_of steps first_road link = queue_to (To first_road) (rates_of link.pieces steps) link
 
 -- the queue, where there is a piece
 abbrev pub queues_from : ℕ → ℕ → RawLink → List Piece → List Cell

@@ -4,18 +4,8 @@ ghost use Rattle.std.specs.Prelude.{◌≡◌};
 ghost use Rattle.cell_build.specs.declared.fault.BuildFault.TheVariants.{Memory as WantOfMemory};
 
 use ct_base::Memory;
+use demand::DemandFault;
 use std::alloc::AllocError;
-
-/// Why the demand of a link is refused.
-#[derive(Clone, Copy, Debug, PartialEq, Eq)]
-pub enum DemandFault {
-    /// A piece holds no step, or ends past the horizon.
-    Range { piece: u32 },
-    /// More than 1000 units arrive in a step.
-    Heavy { step: u32 },
-    /// There was not enough memory.
-    Memory,
-}
 
 /// Where a phase is named that its signal does not have.
 #[derive(Clone, Copy, Debug, PartialEq, Eq)]
@@ -28,10 +18,11 @@ pub enum PhaseAt {
     Next(u32, u32, u32),
 }
 
-/// Why a network was not built. Links, signals, phases and places are counted from 0.
+/// Why a network was not built, in the order in which the rules are judged. Links, signals, phases and places are counted
+/// from 0.
 #[derive(Clone, Copy, Debug, PartialEq, Eq)]
 pub enum BuildFault {
-    /// A link leads to a link that is not there. Place 0 is `to`, place j + 1 is branch j.
+    /// A link leads to a link that is not there. `to` counts as place 0, and the branches as the places from 1 on.
     UnknownLink { link: u32, place: u32 },
     /// A link names a signal that is not there.
     UnknownSignal { link: u32 },
@@ -41,7 +32,7 @@ pub enum BuildFault {
     OutBoth { link: u32 },
     /// A link leads to itself.
     Itself { link: u32 },
-    /// A branch names the same link as an earlier one.
+    /// Two branches of a link name one link; the place is that of the later branch.
     TwiceTurn { link: u32, place: u32 },
     /// A link has demand, and another link leads into it.
     Fed { link: u32 },

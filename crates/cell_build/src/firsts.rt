@@ -4,20 +4,11 @@ ghost use Rattle.std.specs.Prelude.{◌≡◌, ◌<◌, ◌≤◌, length, All, 
 ghost use Rattle.cell_build.specs.Firsts.{AreFirsts};
 ghost use Rattle.cell_build.specs.Link.{cell_count, cells_below, queue_count, road_named};
 
-use crate::names::link_place;
+use crate::count::queue_count;
+use crate::numbered::Links;
 use ct_base::Memory;
-use network_file::{Piece, RawLink};
+use network_file::RawLink;
 use std::alloc::Global;
-
-/// How many queues a link with these pieces of demand begins with: one, or none where there is no piece.
-pub(crate) fn queue_count(pieces: &[Piece]) -> u32
-    ensures { result ≡ queue_count pieces.now }
-{
-    match pieces {
-        [] => 0,
-        _ => 1,
-    }
-}
 
 /// The number of the first cell of each link.
 pub(crate) fn first_cells(alloc: Global, links: &[RawLink]) -> Result<Vec<u32>, Memory>
@@ -35,10 +26,10 @@ pub(crate) fn first_cells(alloc: Global, links: &[RawLink]) -> Result<Vec<u32>, 
 }
 
 /// The number of the first road cell of the link with a name.
-pub(crate) fn road_named(links: &[RawLink], firsts: &[u32], name: &str) -> u32
+pub(crate) fn road_named(links: &Links<'_>, firsts: &[u32], name: &str) -> u32
     requires { AreFirsts links.now firsts.now }
     ensures { result ≡ road_named links.now name.now }
 {
-    let place = link_place(links, name).unwrap_or(0);
-    firsts[place] + queue_count(links[place].pieces.as_slice())
+    let place = links.place_of(name).unwrap_or(0);
+    firsts[place] + queue_count(links.get(place).pieces.as_slice())
 }

@@ -7,7 +7,8 @@ ghost use Rattle.cell_build.specs.Link.{gate_of};
 ghost use Rattle.cell_build.specs.Names.{number_of, phase_names, phase_of, set_of, signal_of};
 ghost use Rattle.network_file.specs.Range.{IsSignalInRange};
 
-use crate::names::{phase_place, signal_place};
+use crate::names::phase_place;
+use crate::numbered::Signals;
 use ct_base::{Gate, Listed, Memory, Phase, Signal};
 use network_file::{Name, RawLink, RawPhase, RawSignal};
 use std::alloc::Global;
@@ -33,7 +34,7 @@ fn set_of(signal: &RawSignal, names: &[Name]) -> u8
 }
 
 /// The gate of a link: none where it names no signal.
-pub(crate) fn gate_of(signals: &[RawSignal], link: &RawLink) -> Option<Gate>
+pub(crate) fn gate_of(signals: &Signals<'_>, link: &RawLink) -> Option<Gate>
     requires some { link.now.signal ≢ None → 0 < length signals.now }
     requires few { length signals.now ≤ 16 }
     requires in_range { All IsSignalInRange signals.now }
@@ -41,10 +42,10 @@ pub(crate) fn gate_of(signals: &[RawSignal], link: &RawLink) -> Option<Gate>
 {
     match &link.signal {
         Some(name) => {
-            let place = signal_place(signals, name.as_str()).unwrap_or(0);
+            let place = signals.place_of(name.as_str()).unwrap_or(0);
             Some(Gate {
                 signal: place as u32,
-                greens: set_of(&signals[place], link.greens.as_slice()),
+                greens: set_of(&signals.as_slice()[place], link.greens.as_slice()),
             })
         }
         None => None,

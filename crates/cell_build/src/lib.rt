@@ -1,20 +1,23 @@
-//! From the links of a network file to a valid network of cells, with the names of its links.
+//! From the links and signals of a network file to a valid network of cells with its names, or the first rule that they
+//! break.
 #![tactic(auto)]
 
 mod builder;
-mod demand;
+mod count;
 mod fault;
 mod firsts;
 mod gate;
 mod judge;
 mod link;
-mod named;
 mod names;
+mod naming;
 mod network;
+mod numbered;
 mod out;
 #[cfg(test)]
 mod tests;
 
 pub use builder::build;
-pub use fault::{BuildFault, DemandFault, PhaseAt};
-pub use named::NamedNet;
+pub use demand::DemandFault;
+pub use fault::{BuildFault, PhaseAt};
+pub use naming::{NamedNet, Names};

@@ -1,50 +1,28 @@
 //! The cells of a link: a queue where there is demand, and then the road cells from upstream to downstream.
 
-ghost use Rattle.std.specs.Prelude.{◌≡◌, ◌+◌, ◌<◌, ◌≤◌, false, [], ◌∷◌, ◌++◌, length, OnOk};
+ghost use Rattle.std.specs.Prelude.{◌≡◌, ◌+◌, ◌≤◌, ◌++◌, length, OnOk};
 ghost use Rattle.ct_base.specs.Tables.{table_of};
-ghost use Rattle.cell_build.specs.Demand.{has_range_fault};
-ghost use Rattle.cell_build.specs.Link.{cell_count, cells_of_link, initial_at, queue_of, queue_to, road_of, road_to};
-ghost use Rattle.network_file.specs.Range.{IsLinkInRange};
+ghost use Rattle.cell_build.specs.Link.{initial_at, queue_to, road_of, road_to};
+ghost use Rattle.cell_build.specs.Queues.{queue_with};
 
-use crate::demand::sum_of;
 use ct_base::{Cell, Gate, Kind, Listed, Memory, Out, Units};
 use network_file::RawLink;
 use std::alloc::Global;
 
-/// Adds the cells of a link to the cells before them, from which their numbers go on. The last one leads to `last`,
-/// behind `gate`.
-pub(crate) fn add_link(
-    alloc: Global,
+/// Adds the queue of a link, where demand arrives, to the cells before it. It leads to the road cell after it.
+pub(crate) fn add_queue(
     cells: &mut Vec<Cell>,
-    steps: u32,
-    last: Out,
-    gate: Option<Gate>,
+    demand: Option<Units>,
     link: &RawLink,
 ) -> Result<(), Memory>
-    requires in_range { IsLinkInRange link.now }
-    requires demand { has_range_fault link.now.pieces steps ≡ false }
-    requires few { length cells.old.items + cell_count link.now ≤ 256 }
+    requires { length cells.old.items ≤ 256 }
     ensures { OnOk result (cells.new.items ≡ cells.old.items
-        ++ cells_of_link steps (length cells.old.items) last gate link.now) }
+        ++ queue_with (length cells.old.items + 1) demand link.now) }
 {
-    if link.pieces.len() > 0 {
-        add_queue(alloc, cells, steps, link)?;
+    if let Some(demand) = demand {
+        let first_road = cells.len() as u32 + 1;
+        cells.push(queue_cell(link, Out::To(first_road), demand))?;
     }
-    add_road(alloc, cells, last, gate, link)?;
-    Ok(())
-}
-
-/// Adds the queue of a link, which leads to the road cell after it.
-fn add_queue(alloc: Global, cells: &mut Vec<Cell>, steps: u32, link: &RawLink) -> Result<(), Memory>
-    requires in_range { IsLinkInRange link.now }
-    requires demand { has_range_fault link.now.pieces steps ≡ false }
-    requires few { length cells.old.items < 256 }
-    ensures { OnOk result (cells.new.items ≡ cells.old.items
-        ++ queue_of steps (length cells.old.items + 1) link.now ∷ []) }
-{
-    let first_road = cells.len() as u32 + 1;
-    let demand = Listed::of(sum_of(alloc, link.pieces.as_slice(), steps as usize)?);
-    cells.push(queue_cell(link, Out::To(first_road), demand))?;
     Ok(())
 }
 
@@ -67,7 +45,7 @@ fn queue_cell(link: &RawLink, out: Out, demand: Units) -> Cell
 
 /// Adds the road cells of a link to the cells before them. Each leads to the next, and the last one to `last`, behind
 /// `gate`.
-fn add_road(
+pub(crate) fn add_road(
     alloc: Global,
     cells: &mut Vec<Cell>,
     last: Out,

@@ -5,6 +5,7 @@ ghost use Rattle.cell_build.specs.Firsts.{AreFirsts};
 ghost use Rattle.cell_build.specs.Link.{out_by, road_named};
 
 use crate::firsts::road_named;
+use crate::numbered::Links;
 use ct_base::{Listed, Memory, Out, Turns};
 use network_file::{Name, RawLink};
 use std::alloc::Global;
@@ -12,7 +13,7 @@ use std::alloc::Global;
 /// Where a link leads: into the first road cells of the links that it names, or out of the network.
 pub(crate) fn out_of(
     alloc: Global,
-    links: &[RawLink],
+    links: &Links<'_>,
     firsts: &[u32],
     link: &RawLink,
 ) -> Result<Out, Memory>
@@ -29,7 +30,7 @@ pub(crate) fn out_of(
 /// The branches of a diverge with the links that they name as cells.
 fn branches_of(
     alloc: Global,
-    links: &[RawLink],
+    links: &Links<'_>,
     firsts: &[u32],
     turns: &[(Name, u32)],
 ) -> Result<Turns, Memory>

@@ -1,5 +1,7 @@
 //! Networks that are built and compared whole, with numbers worked by hand.
 
+ghost use Rattle.std.specs.Prelude.{◌<◌, length};
+
 use crate::{BuildFault, NamedNet, build};
 use ct_base::{Cell, Kind, Out, Signal};
 use network_file::read;
@@ -56,8 +58,8 @@ fn signal_in_words(alloc: Global, signal: &Signal) -> Result<String, AllocError>
     Ok(words)
 }
 
-/// What a network is, in words: a line a cell, a line a signal, and the names of the links.
-fn in_words(alloc: Global, named: &NamedNet) -> Result<String, AllocError> {
+/// What a network is, in words: a line a cell, and a line a signal.
+fn net_in_words(alloc: Global, named: &NamedNet) -> Result<String, AllocError> {
     let mut lines = format!(in alloc; "{} steps\n", named.net().steps)?;
     for cell in named.net().cells.as_slice() {
         lines.push_str(cell_in_words(alloc, cell)?.as_str())?;
@@ -65,24 +67,71 @@ fn in_words(alloc: Global, named: &NamedNet) -> Result<String, AllocError> {
     for signal in named.net().signals.as_slice() {
         lines.push_str(signal_in_words(alloc, signal)?.as_str())?;
     }
-    for name in named.links() {
-        lines.push_str(name.as_str())?;
-        lines.push_str(";")?;
-    }
     Ok(lines)
 }
 
+/// The name of the link of a cell, and the cell's place in the link.
+fn place_in_words(alloc: Global, named: &NamedNet, cell: u32) -> Result<String, AllocError>
+    requires { cell < length named.now.net.cells }
+{
+    let names = named.names();
+    let link = names.link_of(cell);
+    match names.place_of(cell) {
+        Some(road) => format!(in alloc; "{link} {road};"),
+        None => format!(in alloc; "{link} queue;"),
+    }
+}
+
+/// The places of all cells, in words.
+fn places_in_words(alloc: Global, named: &NamedNet) -> Result<String, AllocError> {
+    let mut words = String::new(alloc);
+    for cell in 0..named.net().cells.len() {
+        words.push_str(place_in_words(alloc, named, cell as u32)?.as_str())?;
+    }
+    Ok(words)
+}
+
+/// Two arms that meet behind a signal. The one begins with a queue, and the other has two cells with a unit on the first.
+const CROSSING: &str = "format = 1\nsteps = 3\n\
+    [[signal]]\nname = \"lights\"\nstart = \"ns\"\n\
+    [[signal.phase]]\nname = \"ew\"\nmin = 1\nmax = 2\nclear = 1\nnext = [\"ns\"]\n\
+    [[signal.phase]]\nname = \"ns\"\nmin = 1\nmax = 3\nclear = 0\nnext = [\"ew\"]\n\
+    [[link]]\nname = \"west\"\ncap = 2\nstore = 4\nto = \"out\"\nsignal = \"lights\"\ngreens = [\"ew\"]\nrates = [2, 2]\n\
+    [[link]]\nname = \"south\"\ncells = 2\ncap = 2\nstore = 4\nto = \"out\"\nsignal = \"lights\"\ngreens = [\"ns\"]\ninitial = [1, 0]\n\
+    [[link]]\nname = \"out\"\ncap = 1\nstore = 2\nwave = [1, 2]\n";
+
+/// The cells and the signal that it becomes, worked by hand.
+const CROSSING_IN_WORDS: &str = "3 steps\n\
+    queue 2 0 1/1 0 [2, 2, 0] open to 1\n\
+    road 2 4 1/1 0 [] 0:1 to 4\n\
+    road 2 4 1/1 1 [] open to 3\n\
+    road 2 4 1/1 0 [] 0:2 to 4\n\
+    road 1 2 1/2 0 [] open out\n\
+    signal 1 1-2+1>2 1-3+0>1\n";
+
 #[test]
-fn a_link_with_demand_leads_into_a_slow_one(rt: HostRuntime) -> Result<(), Fail> {
-    let text = "format = 1\nsteps = 3\n\
-        [[link]]\nname = \"a\"\ncap = 2\nstore = 4\nto = \"b\"\nrates = [2, 2]\n\
-        [[link]]\nname = \"b\"\ncap = 1\nstore = 2\nwave = [1, 2]\n";
-    let named = build(rt.alloc(), read(rt.alloc(), text.as_bytes())?).map_err(|_| "refused")?;
+fn two_arms_meet_behind_a_signal(rt: HostRuntime) -> Result<(), Fail> {
+    let alloc = rt.alloc();
+    let raw = read(alloc, CROSSING.as_bytes()).map_err(|_| "not read")?;
+    let named = build(alloc, raw).map_err(|_| "refused")?;
+    assert_eq!(rt; net_in_words(alloc, &named)?.as_str(), CROSSING_IN_WORDS);
     assert_eq!(rt;
-        in_words(rt.alloc(), &named)?.as_str(),
-        "3 steps\nqueue 2 0 1/1 0 [2, 2, 0] open to 1\nroad 2 4 1/1 0 [] open to 2\n\
-        road 1 2 1/2 0 [] open out\na;b;"
+        places_in_words(alloc, &named)?.as_str(),
+        "west queue;west 0;south 0;south 1;out 0;"
     );
+
+    if named.net().signals.len() != 1 {
+        return Err("not one signal".into());
+    }
+    let names = named.names();
+    assert_eq!(rt; names.signal(0), "lights");
+    assert_eq!(rt; names.phase_named(0, b"ns"), Some(1));
+    assert_eq!(rt; names.phase_named(0, b"out"), None);
+    if named.net().signals.as_slice()[0].phases.len() != 2 {
+        return Err("not two phases".into());
+    }
+    assert_eq!(rt; names.phase(0, 0), "ew");
+    assert_eq!(rt; names.phase(0, 1), "ns");
     Ok(())
 }
 
@@ -91,7 +140,8 @@ fn the_first_fault_is_told(rt: HostRuntime) -> Result<(), Fail> {
     let text = "format = 1\nsteps = 3\n\
         [[link]]\nname = \"a\"\ncap = 2\nstore = 4\nto = \"b\"\nrates = [2, 2]\n\
         [[link]]\nname = \"b\"\ncap = 1\nstore = 2\nto = \"b\"\n";
-    let fault = build(rt.alloc(), read(rt.alloc(), text.as_bytes())?).err();
+    let raw = read(rt.alloc(), text.as_bytes()).map_err(|_| "not read")?;
+    let fault = build(rt.alloc(), raw).err();
     assert_eq!(rt; fault, Some(BuildFault::Itself { link: 1 }));
     Ok(())
 }

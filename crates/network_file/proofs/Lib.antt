@@ -1,8 +1,12 @@
 mod Arrays
-mod DemandLists
-mod Keys
-mod LinkLists
+mod ItemLists
+mod KeyLists
+mod KnownValues
+mod NameLists
+mod NamesDiffer
+mod Pieces
+mod PlaceLaws
 mod RangeLaws
 mod RawNetwork
-mod SchemaLaws
-mod Waves
+mod TableWalks
+mod ValueLaws

@@ -1,32 +1,28 @@
--- Every network that a file spells is in range, and has the plain keys alone.
-use Rattle.std.proofs.Common.{◌≡◌, ℕ, ◌+◌, ◌≤◌, true, nat_le, List, [], ◌∷◌, length, map, Option, Some, None, codes, Result, Ok, Err, IfOk, refl, subst, arith}
+-- Every network without faults is in range.
+use Rattle.std.proofs.Common.{◌≡◌, ◌≢◌, ℕ, ◌+◌, ◌<◌, ◌≤◌, List, [], ◌∷◌, ◌++◌, length, get_or, map, codes, Option, Some, None, Ok, refl, ap, arith}
+use Rattle.std.specs.Prelude.{IfSome}
 use Rattle.std.specs.List.{All}
-use Rattle.std.proofs.lemmas.Bool.{leb-true, false≢true}
-use Rattle.std.proofs.lemmas.List.Elements.{All-nil, All-cons, All-head, All-tail, All-weaker}
-use Rattle.std.proofs.lemmas.Option.{cond_some, none-some, option_and_then_some, same_Some}
-use Rattle.toml.specs.Data.{array, table, no_items, item, Members}
+use Rattle.std.proofs.lemmas.List.{get_or-map, length-append, length-map}
+use Rattle.std.proofs.lemmas.List.Elements.{All-nil, All-cons, All-head, All-tail, All-append, All-map, All-weaker, All-from_get_or}
+use Rattle.toml.specs.Data.{Members, no_members, get_member}
+use Rattle.refusals.specs.Faults.{per_item, unless}
+use Rattle.refusals.proofs.FirstFaults.{unless_fine}
+use Rattle.refusals.proofs.JoinLaws.{append_none, join_none, join_of_none}
 use Rattle.ct_base.specs.Validity.{IsBetween}
-use Rattle.network_file.specs.Schema.{is_name, all_differ, has_only, whole_in, list_in, name_in, required, optional}
-use Rattle.network_file.specs.Spelled.{Gives, wave_in, rates_in, some_text_in, pieces_from, link_of, link_in, link_keys, network_of, top_keys}
-use Rattle.network_file.specs.Range.{IsPieceInRange, IsLinkInRange, IsSignalInRange, IsInRange, IsPlainLink, IsPlain}
-use Rattle.network_file.specs.declared.fault.NetFault.{NetFault}
-use Rattle.network_file.specs.declared.raw.Piece.{Piece}
+use Rattle.network_file.specs.Documents.{numbers_at, tables_at, text_at}
+use Rattle.network_file.specs.Judged.{HasFewRates}
+use Rattle.network_file.specs.Keys.{phase_keys, piece_keys, turn_keys}
+use Rattle.network_file.specs.Range.{IsInRange, IsLinkInRange, IsPhaseInRange, IsPieceInRange, IsSignalInRange}
+use Rattle.network_file.specs.Refusals.{faults_of, key_faults, link_name_faults, name_faults, name_faults_at, names_of, number, phase_name_faults, range_faults, signal_name_faults}
+use Rattle.network_file.specs.Spelled.{link_of, network_of, phase_of, piece_of, pieces_from, signal_of, turn_of}
+use Rattle.network_file.specs.declared.fault.At.{At}
+use Rattle.network_file.specs.declared.fault.At.TheVariants.{Link, Phase, Signal}
 use Rattle.network_file.specs.declared.raw.RawLink.{RawLink}
-use Rattle.network_file.specs.declared.raw.RawNet.{RawNet}
-use Rattle.network_file.proofs.SchemaLaws.{Keeps, where_true_some, whole_in-Keeps, name_in-Keeps, list_in-Keeps, required-keeps, optional-keeps}
-
--- a wave speed in range
-abbrev pub IsWave : ℕ × ℕ → Type 0
-IsWave wave = IsBetween 1 wave.1 wave.0 × (wave.1 ≤ 100)
-
--- a wave speed that is read is in range
-wave_in-Keeps : Keeps IsWave wave_in
-wave_in-Keeps (array (item first (item second no_items))) wave e =
-    option_and_then_some _ (whole_in 1 100 first) wave e (λ p read_p more.
-    option_and_then_some _ (whole_in 1 100 second) wave more (λ q read_q rest.
-    let (at_most, same) = cond_some (nat_le p q) (p, q) wave rest in
-    subst IsWave same (((whole_in-Keeps 1 100 first p read_p).0, leb-true p q at_most), (whole_in-Keeps 1 100 second q read_q).1)))
-wave_in-Keeps _ wave e = absurd (none-some wave e)
+use Rattle.network_file.specs.declared.raw.RawPhase.{RawPhase}
+use Rattle.network_file.specs.declared.raw.RawSignal.{RawSignal}
+use Rattle.network_file.proofs.NamesDiffer.{names_differ}
+use Rattle.network_file.proofs.PlaceLaws.{IsFine, IsFineLink, IsFineSignal, IsFineTop, top_fine}
+use Rattle.network_file.proofs.ValueLaws.{AreFew, IsWave, name_needed, no_texts_alone, number_needed, number_optional, numbers_optional, some_numbers_optional, tables_at_most, tables_needed, tables_optional, texts_needed, texts_needed_with, wave_optional}
 
 -- there are as many pieces as rates
 length-pieces_from : (t : ℕ) (rates : List ℕ) → length (pieces_from t rates) ≡ length rates
@@ -34,114 +30,160 @@ length-pieces_from t [] = refl
 length-pieces_from t (rate ∷ rates) = omega (arith, length-pieces_from (t + 1) rates)
 
 -- the pieces of rates in range are in range, where they end within 240 steps
-pieces_from-in_range : (t : ℕ) (rates : List ℕ) → t + length rates ≤ 240 → All (λ rate. IsBetween 0 1000 rate) rates → All IsPieceInRange (pieces_from t rates)
-pieces_from-in_range t [] fits rates = All-nil _
+pieces_from-in_range : (t : ℕ) (rates : List ℕ) → t + length rates ≤ 240 → All (λ rate. rate ≤ 1000) rates → All IsPieceInRange (pieces_from t rates)
+pieces_from-in_range t [] fits rates = All-nil IsPieceInRange
 pieces_from-in_range t (rate ∷ rates) fits each =
     All-cons IsPieceInRange (record { first = t; until = t + 1; rate = rate }) (pieces_from (t + 1) rates)
-    (record { first = omega arith; until = omega arith; rate = (All-head (IsBetween 0 1000) rate rates each).1 })
-    (pieces_from-in_range (t + 1) rates (omega arith) (All-tail (IsBetween 0 1000) rate rates each))
+    (record { first = omega arith; until = omega arith; rate = All-head (λ rate. rate ≤ 1000) rate rates each })
+    (pieces_from-in_range (t + 1) rates (omega arith) (All-tail (λ rate. rate ≤ 1000) rate rates each))
 
--- pieces that are read are no more than the steps, and in range
-rates_in-Keeps : Keeps (λ pieces. (length pieces ≤ 480) × All IsPieceInRange pieces) rates_in
-rates_in-Keeps d pieces e =
-    option_and_then_some _ (list_in 0 240 (whole_in 0 1000) d) pieces e (λ rates read same.
-    let (count, each) = list_in-Keeps (IsBetween 0 1000) 0 240 (whole_in 0 1000) (whole_in-Keeps 0 1000) d rates read in
-    subst (λ ps. (length ps ≤ 480) × All IsPieceInRange ps) (same_Some (pieces_from 0 rates) pieces same)
-    (omega (arith, length-pieces_from 0 rates, count.1), pieces_from-in_range 0 rates (omega (arith, count.1)) each))
+-- a piece and a branch
+piece_in_range : (ms : Members) → IsFine piece_keys ms → IsPieceInRange (piece_of ms)
+piece_in_range ms is = record {
+  first = (number_needed 0 0 240 (get_member (codes "from") ms) (omega arith) (is.types 0 (omega arith)) (is.ranges 0 (omega arith))).1;
+  until = (number_needed 0 0 240 (get_member (codes "until") ms) (omega arith) (is.types 1 (omega arith)) (is.ranges 1 (omega arith))).1;
+  rate = (number_needed 0 0 1000 (get_member (codes "rate") ms) (omega arith) (is.types 2 (omega arith)) (is.ranges 2 (omega arith))).1;
+}
 
--- a link in range with the plain keys alone
-abbrev pub IsLink : RawLink → Type 0
-IsLink link = IsLinkInRange link × IsPlainLink link
+parcel_in_range : (ms : Members) → IsFine turn_keys ms → IsBetween 1 100 (turn_of ms).1
+parcel_in_range ms is = number_needed 0 1 100 (get_member (codes "parcel") ms) (omega arith) (is.types 1 (omega arith)) (is.ranges 1 (omega arith))
 
--- its parts in range make it one
-link_from : (name : List ℕ) (cells cap store : ℕ) (wave : ℕ × ℕ) (to : Option (List ℕ)) (pieces : List Piece)
-    → is_name name ≡ true → IsBetween 1 256 cells → IsBetween 1 1000 cap → IsBetween 1 10000 store → IsWave wave → (length pieces ≤ 480) × All IsPieceInRange pieces
-    → IsLink (record { name = name; cells = cells; cap = cap; store = store; wave_p = wave.0; wave_q = wave.1; to = to; turns = []; signal = None; greens = []; initial = None; pieces = pieces })
-link_from name cells cap store wave to pieces is_name cells_in cap_in store_in wave_in pieces_in = (
-  record {
-    name = is_name;
-    cells = cells_in;
-    cap = cap_in;
-    store = store_in;
-    wave_p = wave_in.0;
-    wave_q = wave_in.1;
-    turns = λ some. absurd (some refl);
-    parcels = All-nil _;
-    greens = λ gated. absurd (false≢true gated);
-    no_greens = λ _. refl;
-    initial = tt;
-    initial_units = tt;
-    pieces = pieces_in.0;
-    each_piece = pieces_in.1;
-  },
-  record { turns = refl; signal = refl; greens = refl; initial = refl },
-)
+-- the rates of a link
+rates_few : (ms : Members) → IsFineLink ms → AreFew 240 1000 (numbers_at (codes "rates") ms)
+rates_few ms is = numbers_optional 240 0 1000 (get_member (codes "rates") ms) (omega arith) (is.own.ranges 11 (omega arith))
 
--- a link that is read is one
-link_of-IsLink : (ms : Members) (link : RawLink) → link_of ms ≡ Some link → IsLink link
+-- no branches where there are no tables
+no_map : {X Y : Type 0} (f : X → Y) (xs : List X) → map f xs ≢ [] → xs ≢ []
+no_map f xs some none = some (ap (map f) none)
+
+-- numbers of units that may be left out
+initial_few : (units : Option (List ℕ)) → IfSome units (AreFew 256 10000) → IfSome units (λ ns. length ns ≤ 256) × IfSome units (λ ns. All (λ n. n ≤ 10000) ns)
+initial_few None few = (tt, tt)
+initial_few (Some ns) few = few
+
+-- a link
+pub link_in_range : (ms : Members) → IsFineLink ms → IsLinkInRange (link_of ms)
 unfolding link_of
-link_of-IsLink ms link e =
-    let (_, read) = where_true_some (has_only link_keys ms) _ link e in
-    option_and_then_some _ (required name_in (codes "name") ms) link read (λ name read_name read.
-    option_and_then_some _ (optional 1 (whole_in 1 256) (codes "cells") ms) link read (λ cells read_cells read.
-    option_and_then_some _ (required (whole_in 1 1000) (codes "cap") ms) link read (λ cap read_cap read.
-    option_and_then_some _ (required (whole_in 1 10000) (codes "store") ms) link read (λ store read_store read.
-    option_and_then_some _ (optional (1, 1) wave_in (codes "wave") ms) link read (λ wave read_wave read.
-    option_and_then_some _ (optional None some_text_in (codes "to") ms) link read (λ to read_to read.
-    option_and_then_some _ (optional [] rates_in (codes "rates") ms) link read (λ pieces read_pieces same.
-    subst IsLink (same_Some _ link same) (link_from name cells cap store wave to pieces
-    (required-keeps (λ text. is_name text ≡ true) name_in name_in-Keeps (codes "name") ms name read_name)
-    (optional-keeps (IsBetween 1 256) 1 (whole_in 1 256) (omega arith, omega arith) (whole_in-Keeps 1 256) (codes "cells") ms cells read_cells)
-    (required-keeps (IsBetween 1 1000) (whole_in 1 1000) (whole_in-Keeps 1 1000) (codes "cap") ms cap read_cap)
-    (required-keeps (IsBetween 1 10000) (whole_in 1 10000) (whole_in-Keeps 1 10000) (codes "store") ms store read_store)
-    (optional-keeps IsWave (1, 1) wave_in ((omega arith, omega arith), omega arith) wave_in-Keeps (codes "wave") ms wave read_wave)
-    (optional-keeps (λ ps. (length ps ≤ 480) × All IsPieceInRange ps) [] rates_in (omega arith, All-nil IsPieceInRange) rates_in-Keeps (codes "rates") ms pieces read_pieces)))))))))
+link_in_range ms is =
+    let own = is.own in
+    let wave_in : IsWave (numbers_at (codes "wave") ms) = wave_optional (get_member (codes "wave") ms) (own.ranges 4 (omega arith)) in
+    let rates : AreFew 240 1000 (numbers_at (codes "rates") ms) = rates_few ms is in
+    let listed : length (tables_at (codes "demand") ms) ≤ 240 = tables_at_most 0 240 (get_member (codes "demand") ms) (own.ranges 10 (omega arith)) in
+    let initial_in = initial_few _ (some_numbers_optional 256 0 10000 (get_member (codes "initial") ms) (omega arith) (own.ranges 9 (omega arith))) in
+    record {
+      name = name_needed (get_member (codes "name") ms) (own.types 0 (omega arith)) (own.ranges 0 (omega arith));
+      cells = number_optional 1 1 256 (get_member (codes "cells") ms) (omega arith) (omega arith, omega arith) (own.ranges 1 (omega arith));
+      cap = number_needed 0 1 1000 (get_member (codes "cap") ms) (omega arith) (own.types 2 (omega arith)) (own.ranges 2 (omega arith));
+      store = number_needed 0 1 10000 (get_member (codes "store") ms) (omega arith) (own.types 3 (omega arith)) (own.ranges 3 (omega arith));
+      wave_p = wave_in.0;
+      wave_q = wave_in.1;
+      turns = λ some. rw (length-map (tables_at (codes "turns") ms) turn_of) (tables_optional 2 4 (get_member (codes "turns") ms) (own.types 6 (omega arith)) (own.ranges 6 (omega arith)) (no_map turn_of (tables_at (codes "turns") ms) some));
+      parcels = All-map (λ (turn : List ℕ × ℕ). IsBetween 1 100 turn.1) turn_of (tables_at (codes "turns") ms) (All-weaker (IsFine turn_keys) (λ turn. IsBetween 1 100 (turn_of turn).1) parcel_in_range (tables_at (codes "turns") ms) is.turns);
+      greens = texts_needed_with 1 16 (get_member (codes "signal") ms) (get_member (codes "greens") ms) (own.types 8 (omega arith)) (own.ranges 8 (omega arith));
+      no_greens = no_texts_alone (get_member (codes "signal") ms) (get_member (codes "greens") ms) (own.types 7 (omega arith));
+      initial = initial_in.0;
+      initial_units = initial_in.1;
+      pieces = omega (arith, length-append (map piece_of (tables_at (codes "demand") ms)) (pieces_from 0 (numbers_at (codes "rates") ms)), length-map (tables_at (codes "demand") ms) piece_of, length-pieces_from 0 (numbers_at (codes "rates") ms), rates.0);
+      each_piece = All-append IsPieceInRange (map piece_of (tables_at (codes "demand") ms)) (pieces_from 0 (numbers_at (codes "rates") ms))
+          (All-map IsPieceInRange piece_of (tables_at (codes "demand") ms) (All-weaker (IsFine piece_keys) (λ piece. IsPieceInRange (piece_of piece)) piece_in_range (tables_at (codes "demand") ms) is.pieces))
+          (pieces_from-in_range 0 (numbers_at (codes "rates") ms) (omega (arith, rates.0)) rates.1);
+    }
 
--- and so is an item that is read as one
-link_in-Keeps : Keeps IsLink link_in
-link_in-Keeps (table ms) link e = link_of-IsLink ms link e
-link_in-Keeps _ link e = absurd (none-some link e)
+-- a phase
+phase_in_range : (ms : Members) → IsFine phase_keys ms → IsPhaseInRange (phase_of ms)
+phase_in_range ms is = record {
+  name = name_needed (get_member (codes "name") ms) (is.types 0 (omega arith)) (is.ranges 0 (omega arith));
+  min = number_needed 0 1 60 (get_member (codes "min") ms) (omega arith) (is.types 1 (omega arith)) (is.ranges 1 (omega arith));
+  max = number_needed 0 1 60 (get_member (codes "max") ms) (omega arith) (is.types 2 (omega arith)) (is.ranges 2 (omega arith));
+  clear = (number_optional 0 0 20 (get_member (codes "clear") ms) (omega arith) (omega arith, omega arith) (is.ranges 3 (omega arith))).1;
+  next = (texts_needed 0 16 (get_member (codes "next") ms) (is.types 4 (omega arith)) (is.ranges 4 (omega arith))).1;
+}
 
--- a network in range with the plain keys alone
-abbrev pub IsNetwork : RawNet → Type 0
-IsNetwork net = IsInRange net × IsPlain net
+-- names of phases, links and signals as their tables spell them
+phase_names : (tables : List Members) → map (λ (phase : RawPhase). phase.name) (map phase_of tables) ≡ names_of tables
+phase_names [] = refl
+phase_names (ms ∷ tables) = ap (λ names. text_at (codes "name") ms ∷ names) (phase_names tables)
 
--- its parts in range make it one
-network_from : (steps : ℕ) (links : List RawLink) → IsBetween 1 240 steps → IsBetween 1 64 (length links) → All IsLink links → all_differ (map (λ (link : RawLink). link.name) links) ≡ true
-    → IsNetwork (record { steps = steps; links = links; signals = [] })
-network_from steps links steps_in links_in each differ = (
-  record {
-    steps = steps_in;
-    links = links_in;
-    signals = omega arith;
-    each_link = All-weaker IsLink IsLinkInRange (λ link is. is.0) links each;
-    each_signal = All-nil IsSignalInRange;
-    links_differ = differ;
-    signals_differ = refl;
-  },
-  record { each_link = All-weaker IsLink IsPlainLink (λ link is. is.1) links each; signals = refl },
-)
+link_name : (ms : Members) → (link_of ms).name ≡ text_at (codes "name") ms
+unfolding link_of
+link_name ms = refl
 
--- a network that is read is one
-network_of-IsNetwork : (ms : Members) (net : RawNet) → network_of ms ≡ Some net → IsNetwork net
+link_names : (tables : List Members) → map (λ (link : RawLink). link.name) (map link_of tables) ≡ names_of tables
+link_names [] = refl
+link_names (ms ∷ tables) = rw (link_name ms) (ap (λ names. text_at (codes "name") ms ∷ names) (link_names tables))
+
+signal_name : (ms : Members) → (signal_of ms).name ≡ text_at (codes "name") ms
+unfolding signal_of
+signal_name ms = refl
+
+signal_names : (tables : List Members) → map (λ (signal : RawSignal). signal.name) (map signal_of tables) ≡ names_of tables
+signal_names [] = refl
+signal_names (ms ∷ tables) = rw (signal_name ms) (ap (λ names. text_at (codes "name") ms ∷ names) (signal_names tables))
+
+-- a signal, the names of whose phases have no fault
+signal_in_range : (s : ℕ) (ms : Members) → IsFineSignal ms → phase_name_faults s (names_of (tables_at (codes "phase") ms)) ≡ [] → IsSignalInRange (signal_of ms)
+unfolding signal_of
+signal_in_range s ms is none =
+    let phases = tables_at (codes "phase") ms in
+    record {
+      name = name_needed (get_member (codes "name") ms) (is.own.types 0 (omega arith)) (is.own.ranges 0 (omega arith));
+      phases = rw (length-map phases phase_of) (tables_needed 2 8 (get_member (codes "phase") ms) (is.own.types 2 (omega arith)) (is.own.ranges 2 (omega arith)));
+      each_phase = All-map IsPhaseInRange phase_of phases (All-weaker (IsFine phase_keys) (λ phase. IsPhaseInRange (phase_of phase)) phase_in_range phases is.phases);
+      names_differ = rw (phase_names phases) (names_differ (names_of phases) (λ p. Phase (number s) (number p)) none);
+    }
+
+-- the faults of signal names
+abbrev NoSignalNames : List Members → Type 0
+NoSignalNames signals = per_item no_members signals (signal_name_faults signals) ≡ []
+
+signal_names_at : (signals : List Members) (s : ℕ) → NoSignalNames signals → s < length signals → signal_name_faults signals s (get_or signals s no_members) ≡ []
+signal_names_at signals s none within = join_none (length signals) (λ s. signal_name_faults signals s (get_or signals s no_members)) s none within
+
+-- the names of signals among each other
+own_names : (signals : List Members) → NoSignalNames signals → per_item [] (names_of signals) (name_faults_at (names_of signals) (λ k. Signal (number k))) ≡ []
+own_names signals none =
+    let names = names_of signals in
+    let at : ℕ → At = λ k. Signal (number k) in
+    join_of_none (length names) (λ s. name_faults_at names at s (get_or names s [])) (λ s within.
+    let in_signals : s < length signals = rw (← length-map signals (text_at (codes "name"))) within in
+    let none_here = append_none (name_faults_at names at s (text_at (codes "name") (get_or signals s no_members))) (phase_name_faults s (names_of (tables_at (codes "phase") (get_or signals s no_members)))) (signal_names_at signals s none in_signals) in
+    rw (get_or-map (text_at (codes "name")) signals s no_members [] in_signals) none_here.0)
+
+-- what no name faults mean for links, and for signals
+name_parts : (top : Members) → name_faults top ≡ [] → (link_name_faults (names_of (tables_at (codes "link") top)) ≡ []) × NoSignalNames (tables_at (codes "signal") top)
+unfolding name_faults
+name_parts top none = append_none (link_name_faults (names_of (tables_at (codes "link") top))) (per_item no_members (tables_at (codes "signal") top) (signal_name_faults (tables_at (codes "signal") top))) none
+
+-- the three stages
+stages : (top : Members) → faults_of top ≡ [] → (key_faults top ≡ []) × ((range_faults top ≡ []) × (name_faults top ≡ []))
+stages top none =
+    let keys = append_none (key_faults top) (range_faults top ++ name_faults top) none in
+    (keys.0, append_none (range_faults top) (name_faults top) keys.1)
+
+-- a network
+pub network_in_range : (top : Members) → Ok (tt {0}) ≡ unless (faults_of top) (tt {0}) → IsInRange (network_of top)
 unfolding network_of
-network_of-IsNetwork ms net e =
-    let (_, read) = where_true_some (has_only top_keys ms) _ net e in
-    option_and_then_some _ (required (whole_in 1 1) (codes "format") ms) net read (λ format _ read.
-    option_and_then_some _ (required (whole_in 1 240) (codes "steps") ms) net read (λ steps read_steps read.
-    option_and_then_some _ (required (list_in 1 64 link_in) (codes "link") ms) net read (λ links read_links read.
-    let (differ, same) = where_true_some (all_differ (map (λ (link : RawLink). link.name) links)) _ net read in
-    let (count, each) = required-keeps (λ xs. IsBetween 1 64 (length xs) × All IsLink xs) (list_in 1 64 link_in) (list_in-Keeps IsLink 1 64 link_in link_in-Keeps) (codes "link") ms links read_links in
-    subst IsNetwork (same_Some _ net same) (network_from steps links
-    (required-keeps (IsBetween 1 240) (whole_in 1 240) (whole_in-Keeps 1 240) (codes "steps") ms steps read_steps)
-    count each differ))))
+network_in_range top judged =
+    let none = stages top (unless_fine (faults_of top) (tt {0}) (tt {0}) judged) in
+    let is : IsFineTop top = top_fine top none.0 none.1.0 in
+    let names = name_parts top none.1.1 in
+    let links = tables_at (codes "link") top in
+    let signals = tables_at (codes "signal") top in
+    record {
+      steps = number_needed 0 1 240 (get_member (codes "steps") top) (omega arith) (is.own.types 1 (omega arith)) (is.own.ranges 1 (omega arith));
+      links = rw (length-map links link_of) (tables_needed 1 64 (get_member (codes "link") top) (is.own.types 2 (omega arith)) (is.own.ranges 2 (omega arith)));
+      signals = rw (length-map signals signal_of) (tables_at_most 0 16 (get_member (codes "signal") top) (is.own.ranges 3 (omega arith)));
+      each_link = All-map IsLinkInRange link_of links (All-weaker IsFineLink (λ ms. IsLinkInRange (link_of ms)) link_in_range links is.links);
+      each_signal = All-map IsSignalInRange signal_of signals (All-from_get_or (λ ms. IsSignalInRange (signal_of ms)) signals no_members (λ s within.
+          let signal = get_or signals s no_members in
+          signal_in_range s signal (is.signals s no_members within)
+          (append_none (name_faults_at (names_of signals) (λ k. Signal (number k)) s (text_at (codes "name") signal)) (phase_name_faults s (names_of (tables_at (codes "phase") signal))) (signal_names_at signals s names.1 within)).1));
+      links_differ = rw (link_names links) (names_differ (names_of links) (λ k. Link (number k)) names.0);
+      signals_differ = rw (signal_names signals) (names_differ (names_of signals) (λ k. Signal (number k)) (own_names signals names.1));
+    }
 
--- an answer that is what a table spells is in range where it is a network
-pub gives_in_range : (answer : Result RawNet NetFault) (ms : Members) → Gives answer (network_of ms) → IfOk answer IsInRange
-gives_in_range (Ok net) ms given = (network_of-IsNetwork ms net given).0
-gives_in_range (Err fault) ms given = tt
-
--- the same of the plain keys
-pub gives_plain : (answer : Result RawNet NetFault) (ms : Members) → Gives answer (network_of ms) → IfOk answer IsPlain
-gives_plain (Ok net) ms given = (network_of-IsNetwork ms net given).1
-gives_plain (Err fault) ms given = tt
+-- what reading the links needs
+pub rates_judged : (top : Members) → Ok (tt {0}) ≡ unless (faults_of top) (tt {0}) → All HasFewRates (tables_at (codes "link") top)
+rates_judged top judged =
+    let none = stages top (unless_fine (faults_of top) (tt {0}) (tt {0}) judged) in
+    All-weaker IsFineLink HasFewRates (λ ms is. (rates_few ms is).0) (tables_at (codes "link") top) (top_fine top none.0 none.1.0).links

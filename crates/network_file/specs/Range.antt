@@ -1,12 +1,19 @@
 -- What every network that is read keeps (docs/network-file.md, "Ranges").
-use Rattle.std.specs.Prelude.{◌≡◌, ◌≢◌, ℕ, ◌≤◌, true, List, [], length, map, None, IsSome, IfSome, All}
+use Rattle.std.specs.Prelude.{◌≡◌, ◌≢◌, ℕ, ◌≤◌, Bool, true, not, ◌&&◌, List, [], ◌∷◌, length, map, None, IsSome, IfSome, All}
+use Rattle.std.specs.List.{list_any}
+use Rattle.std.specs.Str.{bytes_eq}
 use Rattle.ct_base.specs.Validity.{IsBetween}
-use Rattle.network_file.specs.Schema.{is_name, all_differ}
+use Rattle.texts.specs.Names.{is_name}
 use Rattle.network_file.specs.declared.raw.RawNet.{RawNet}
 use Rattle.network_file.specs.declared.raw.RawLink.{RawLink}
 use Rattle.network_file.specs.declared.raw.RawSignal.{RawSignal}
 use Rattle.network_file.specs.declared.raw.RawPhase.{RawPhase}
-use Rattle.network_file.specs.declared.raw.Piece.{Piece}
+use Rattle.demand.specs.declared.piece.Piece.{Piece}
+
+-- no text stands twice
+abbrev pub all_differ : List (List ℕ) → Bool
+all_differ [] = true
+all_differ (text ∷ texts) = not (list_any (bytes_eq text) texts) && all_differ texts
 
 pub record IsPieceInRange (piece : Piece) : Type 0 where
   pub first : piece.first ≤ 240
@@ -51,15 +58,3 @@ pub record IsInRange (net : RawNet) : Type 0 where
   pub each_signal : All IsSignalInRange net.signals
   pub links_differ : all_differ (map (λ (link : RawLink). link.name) net.links) ≡ true
   pub signals_differ : all_differ (map (λ (signal : RawSignal). signal.name) net.signals) ≡ true
-
--- a link of the keys that are read today
-pub record IsPlainLink (link : RawLink) : Type 0 where
-  pub turns : link.turns ≡ []
-  pub signal : link.signal ≡ None
-  pub greens : link.greens ≡ []
-  pub initial : link.initial ≡ None
-
--- a network of the keys that are read today
-pub record IsPlain (net : RawNet) : Type 0 where
-  pub each_link : All IsPlainLink net.links
-  pub signals : net.signals ≡ []

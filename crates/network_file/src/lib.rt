@@ -1,17 +1,22 @@
-//! The network file: reads the bytes of a TOML document as links and signals, each key of its type and within
-//! its range, or refuses them.
+//! The network file: reads the bytes of a TOML document as links and signals, or names the first place at which they
+//! break the rules of the file.
 #![tactic(auto)]
 
-mod demand;
+mod document;
 mod fault;
-mod limits;
+mod judge;
+mod keys;
+mod kinds;
 mod link;
-mod links;
+mod names;
 mod raw;
 mod reader;
-mod table;
-mod value;
+mod signal;
+#[cfg(test)]
+mod tests;
+mod walk;
 
-pub use fault::NetFault;
-pub use raw::{Name, Piece, RawLink, RawNet, RawPhase, RawSignal};
+pub use demand::Piece;
+pub use fault::{At, NetFault};
+pub use raw::{Name, RawLink, RawNet, RawPhase, RawSignal};
 pub use reader::read;

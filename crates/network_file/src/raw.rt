@@ -1,6 +1,7 @@
 //! A network as its file spells it: names are texts, and nothing is joined yet.
 
-use ct_base::{Listed, Text, Units};
+use ct_base::{Duplicate, Listed, Memory, Text, Units};
+use demand::Piece;
 
 /// The name of a link, a signal or a phase.
 pub type Name = Text;
@@ -10,7 +11,9 @@ pub type Name = Text;
 pub struct RawNet {
     /// The number of steps of the horizon.
     pub steps: u32,
+    /// One per link, in the order of the file.
     pub links: Listed<RawLink>,
+    /// One per signal, in the order of the file.
     pub signals: Listed<RawSignal>,
 }
 
@@ -41,14 +44,6 @@ pub struct RawLink {
     pub pieces: Listed<Piece>,
 }
 
-/// A constant demand: `rate` units arrive at the end of each step from `first` on and before `until`.
-#[derive(Clone, Copy, Debug, PartialEq, Eq)]
-pub struct Piece {
-    pub first: u32,
-    pub until: u32,
-    pub rate: u32,
-}
-
 /// A signal of the file.
 #[derive(Debug, Drop)]
 pub struct RawSignal {
@@ -69,4 +64,69 @@ pub struct RawPhase {
     pub clear: u32,
     /// The phases that may follow.
     pub next: Listed<Name>,
+}
+
+impl Duplicate for RawPhase {
+    fn copy(&self) -> Result<RawPhase, Memory> {
+        let name = self.name.copy()?;
+        let next = self.next.copy()?;
+        Ok(RawPhase {
+            name,
+            min: self.min,
+            max: self.max,
+            clear: self.clear,
+            next,
+        })
+    }
+}
+
+impl Duplicate for RawSignal {
+    fn copy(&self) -> Result<RawSignal, Memory> {
+        let name = self.name.copy()?;
+        let start = self.start.copy()?;
+        let phases = self.phases.copy()?;
+        Ok(RawSignal {
+            name,
+            start,
+            phases,
+        })
+    }
+}
+
+impl Duplicate for RawLink {
+    fn copy(&self) -> Result<RawLink, Memory> {
+        let name = self.name.copy()?;
+        let to = self.to.copy()?;
+        let turns = self.turns.copy()?;
+        let signal = self.signal.copy()?;
+        let greens = self.greens.copy()?;
+        let initial = self.initial.copy()?;
+        let pieces = self.pieces.copy()?;
+        Ok(RawLink {
+            name,
+            cells: self.cells,
+            cap: self.cap,
+            store: self.store,
+            wave_p: self.wave_p,
+            wave_q: self.wave_q,
+            to,
+            turns,
+            signal,
+            greens,
+            initial,
+            pieces,
+        })
+    }
+}
+
+impl Duplicate for RawNet {
+    fn copy(&self) -> Result<RawNet, Memory> {
+        let links = self.links.copy()?;
+        let signals = self.signals.copy()?;
+        Ok(RawNet {
+            steps: self.steps,
+            links,
+            signals,
+        })
+    }
 }

@@ -4,16 +4,16 @@ ghost use Rattle.std.specs.Prelude.{◌≡◌, ◌≢◌, ◌<◌, ◌≤◌, no
 ghost use Rattle.std.specs.List.{list_all};
 ghost use Rattle.cell_build.specs.Built.{Judged};
 ghost use Rattle.cell_build.specs.Link.{gate_of};
-ghost use Rattle.cell_build.specs.Places.{fed_queue_at, open_merge_at};
-ghost use Rattle.cell_build.specs.Refusals.{are_apart, feeders, is_apart, is_empty, per_link};
+ghost use Rattle.cell_build.specs.Refusals.{fed_queue_at, open_merge_at, are_apart, feeders, is_apart, is_empty, per_link};
 ghost use Rattle.network_file.specs.Range.{IsSignalInRange};
 
 use crate::fault::BuildFault;
 use crate::gate::gate_of;
 use crate::judge::outs::leads_to;
 use crate::judge::refusal::refuse_where;
+use crate::numbered::Signals;
 use ct_base::Gate;
-use network_file::{RawLink, RawSignal};
+use network_file::RawLink;
 
 /// No link with demand is led into.
 #[tactic(auto, using(crate::proofs::Judgements::places))]
@@ -47,7 +47,7 @@ fn is_led_into(links: &[RawLink], name: &str) -> bool
 
 /// The links that lead into one are apart.
 #[tactic(auto, using(crate::proofs::Judgements::places))]
-pub(super) fn open_merges(signals: &[RawSignal], links: &[RawLink]) -> Result<(), BuildFault>
+pub(super) fn open_merges(signals: &Signals<'_>, links: &[RawLink]) -> Result<(), BuildFault>
     requires few { length links.now ≤ 64 }
     requires few_signals { length signals.now ≤ 16 }
     requires in_range { All IsSignalInRange signals.now }
@@ -62,7 +62,7 @@ pub(super) fn open_merges(signals: &[RawSignal], links: &[RawLink]) -> Result<()
 
 /// The links that lead into the link are apart.
 fn open_merge_at(
-    signals: &[RawSignal],
+    signals: &Signals<'_>,
     links: &[RawLink],
     k: u32,
     link: &RawLink,
@@ -80,7 +80,7 @@ fn open_merge_at(
 
 /// Whether of the links that lead to the one of this name each two are apart. Each is compared with those after it.
 #[tactic(auto, using(crate::proofs::MergeLists::apart_of_next))]
-fn are_apart(signals: &[RawSignal], links: &[RawLink], name: &str) -> bool
+fn are_apart(signals: &Signals<'_>, links: &[RawLink], name: &str) -> bool
     requires few_signals { length signals.now ≤ 16 }
     requires in_range { All IsSignalInRange signals.now }
     requires known { All (λ link. link.signal ≢ None → 0 < length signals.now) links.now }
@@ -100,7 +100,7 @@ fn are_apart(signals: &[RawSignal], links: &[RawLink], name: &str) -> bool
 #[tactic(auto, using(crate::proofs::MergeLists::all_of_next))]
 fn is_apart_from_all(
     gate: Option<Gate>,
-    signals: &[RawSignal],
+    signals: &Signals<'_>,
     links: &[RawLink],
     name: &str,
 ) -> bool

@@ -5,8 +5,8 @@ ghost use Rattle.std.specs.List.{list_any};
 ghost use Rattle.std.specs.Str.{bytes_eq};
 ghost use Rattle.cell_build.specs.Built.{Judged};
 ghost use Rattle.cell_build.specs.Names.{name_in};
-ghost use Rattle.cell_build.specs.Places.{both_outs_at, loop_at, per_item, twice_turn_at, twice_turns_at};
-ghost use Rattle.cell_build.specs.Refusals.{leads_to, per_link};
+ghost use Rattle.cell_build.specs.Refusals.{both_outs_at, loop_at, twice_turn_at, twice_turns_at, leads_to, per_link};
+ghost use Rattle.refusals.specs.Faults.{per_item};
 ghost use Rattle.network_file.specs.Range.{IsLinkInRange};
 
 use crate::fault::BuildFault;

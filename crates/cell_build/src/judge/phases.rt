@@ -4,8 +4,9 @@ ghost use Rattle.std.specs.Prelude.{◌≡◌, ◌≤◌, length, All};
 ghost use Rattle.std.specs.List.{list_any};
 ghost use Rattle.std.specs.Str.{bytes_eq};
 ghost use Rattle.cell_build.specs.Built.{Judged};
-ghost use Rattle.cell_build.specs.Names.{no_phase, no_signal};
-ghost use Rattle.cell_build.specs.Places.{per_item, phase_rule_at, phase_rules_of};
+ghost use Rattle.cell_build.specs.Names.{no_phase};
+ghost use Rattle.refusals.specs.Faults.{per_item};
+ghost use Rattle.cell_build.specs.Refusals.{per_signal, phase_rule_at, phase_rules_of};
 ghost use Rattle.network_file.specs.Range.{IsPhaseInRange, IsSignalInRange};
 
 use crate::fault::BuildFault;
@@ -17,7 +18,7 @@ use network_file::{Name, RawPhase, RawSignal};
 pub(super) fn phase_rules(signals: &[RawSignal]) -> Result<(), BuildFault>
     requires few { length signals.now ≤ 16 }
     requires in_range { All IsSignalInRange signals.now }
-    ensures { Judged result (per_item no_signal signals.now phase_rules_of) }
+    ensures { Judged result (per_signal signals.now phase_rules_of) }
 {
     for (s, signal) in signals.iter().enumerate() {
         phase_rules_of_signal(s as u32, signal)?;

@@ -3,12 +3,13 @@
 ghost use Rattle.std.specs.Prelude.{◌≡◌, ◌≤◌, nat_lt, length, All, Some};
 ghost use Rattle.std.specs.List.{list_any};
 ghost use Rattle.cell_build.specs.Built.{Judged};
-ghost use Rattle.cell_build.specs.Link.{cell_count, cells_below};
-ghost use Rattle.cell_build.specs.Places.{initial_units_at};
-ghost use Rattle.cell_build.specs.Refusals.{initial_faults, per_link, where_so};
+ghost use Rattle.cell_build.specs.Link.{cells_below};
+ghost use Rattle.cell_build.specs.Refusals.{initial_units_at, initial_faults, per_link};
+ghost use Rattle.refusals.specs.Faults.{where_so};
 ghost use Rattle.cell_build.specs.declared.fault.BuildFault.TheVariants.{Cells as ManyCells};
 ghost use Rattle.network_file.specs.Range.{IsLinkInRange};
 
+use crate::count::count_of_cells;
 use crate::fault::BuildFault;
 use crate::judge::refusal::refuse_where;
 use network_file::RawLink;
@@ -63,30 +64,4 @@ pub(super) fn many_cells(links: &[RawLink]) -> Result<(), BuildFault>
 {
     let count = count_of_cells(links);
     refuse_where(MAX_CELLS < count, BuildFault::Cells { count })
-}
-
-/// How many cells the links become.
-fn count_of_cells(links: &[RawLink]) -> u32
-    requires few { length links.now ≤ 64 }
-    requires in_range { All IsLinkInRange links.now }
-    ensures { result ≡ cells_below links.now (length links.now) }
-{
-    let mut count = 0;
-    for link in links {
-        count += cell_count(link);
-    }
-    count
-}
-
-/// How many cells the link becomes: its road cells, and a queue where it has demand.
-fn cell_count(link: &RawLink) -> u32
-    requires in_range { IsLinkInRange link.now }
-    ensures value { result ≡ cell_count link.now }
-    ensures bound { result ≤ 257 }
-{
-    if link.pieces.as_slice().is_empty() {
-        link.cells
-    } else {
-        link.cells + 1
-    }
 }

@@ -1,7 +1,7 @@
 //! A refusal where a test holds.
 
 ghost use Rattle.cell_build.specs.Built.{Judged};
-ghost use Rattle.cell_build.specs.Refusals.{where_so};
+ghost use Rattle.refusals.specs.Faults.{where_so};
 
 use crate::fault::BuildFault;
 

@@ -3,33 +3,34 @@
 ghost use Rattle.std.specs.Prelude.{◌≤◌, [], ◌++◌, length, map, All};
 ghost use Rattle.cell_build.specs.Built.{Judged};
 ghost use Rattle.cell_build.specs.Link.{signal_named};
-ghost use Rattle.cell_build.specs.Names.{no_phase, no_signal, phase_names};
-ghost use Rattle.cell_build.specs.Places.{per_item, unknown_green_at, unknown_greens_at, unknown_next_at, unknown_nexts_at, unknown_nexts_of, unknown_start_at};
-ghost use Rattle.cell_build.specs.Refusals.{per_link};
+ghost use Rattle.cell_build.specs.Names.{no_phase, phase_names};
+ghost use Rattle.refusals.specs.Faults.{per_item};
+ghost use Rattle.cell_build.specs.Refusals.{unknown_green_at, unknown_greens_at, unknown_next_at, unknown_nexts_at, unknown_nexts_of, unknown_start_at, per_link, per_signal};
 ghost use Rattle.network_file.specs.Range.{IsLinkInRange, IsPhaseInRange, IsSignalInRange};
 
 use crate::fault::{BuildFault, PhaseAt};
 use crate::judge::refusal::refuse_where;
-use crate::names::{phase_place, phases_named};
+use crate::names::phase_place;
+use crate::numbered::Signals;
 use network_file::{Name, RawLink, RawPhase, RawSignal};
 
 /// Each phase that is named is there: first all greens, then all starts, then all that may follow.
 #[tactic(auto, using(crate::proofs::Judgements::joined))]
-pub(super) fn unknown_phases(signals: &[RawSignal], links: &[RawLink]) -> Result<(), BuildFault>
+pub(super) fn unknown_phases(signals: &Signals<'_>, links: &[RawLink]) -> Result<(), BuildFault>
     requires few { length links.now ≤ 64 }
     requires in_range { All IsLinkInRange links.now }
     requires few_signals { length signals.now ≤ 16 }
     requires signals_in_range { All IsSignalInRange signals.now }
-    ensures { Judged result (per_link links.now (unknown_greens_at signals.now) ++ per_item no_signal signals.now unknown_start_at ++ per_item no_signal signals.now unknown_nexts_of) }
+    ensures { Judged result (per_link links.now (unknown_greens_at signals.now) ++ per_signal signals.now unknown_start_at ++ per_signal signals.now unknown_nexts_of) }
 {
     greens_of_links(signals, links)?;
-    unknown_starts(signals)?;
-    nexts_of_signals(signals)
+    unknown_starts(signals.as_slice())?;
+    nexts_of_signals(signals.as_slice())
 }
 
 /// The greens of each link are phases of its signal.
 #[tactic(auto, using(crate::proofs::Judgements::places))]
-fn greens_of_links(signals: &[RawSignal], links: &[RawLink]) -> Result<(), BuildFault>
+fn greens_of_links(signals: &Signals<'_>, links: &[RawLink]) -> Result<(), BuildFault>
     requires few { length links.now ≤ 64 }
     requires in_range { All IsLinkInRange links.now }
     ensures { Judged result (per_link links.now (unknown_greens_at signals.now)) }
@@ -41,7 +42,7 @@ fn greens_of_links(signals: &[RawSignal], links: &[RawLink]) -> Result<(), Build
 }
 
 /// The greens of the link are phases of its signal.
-fn unknown_greens_at(signals: &[RawSignal], k: u32, link: &RawLink) -> Result<(), BuildFault>
+fn unknown_greens_at(signals: &Signals<'_>, k: u32, link: &RawLink) -> Result<(), BuildFault>
     requires in_range { IsLinkInRange link.now }
     ensures { Judged result (unknown_greens_at signals.now k link.now) }
 {
@@ -53,7 +54,7 @@ fn unknown_greens_at(signals: &[RawSignal], k: u32, link: &RawLink) -> Result<()
 
 /// Each green is a phase of the signal of this name.
 fn greens_of_signal(
-    signals: &[RawSignal],
+    signals: &Signals<'_>,
     name: &Name,
     k: u32,
     greens: &[Name],
@@ -61,7 +62,7 @@ fn greens_of_signal(
     requires few { length greens.now ≤ 16 }
     ensures { Judged result (per_item [] greens.now (unknown_green_at (phase_names (signal_named signals.now name.now)) k)) }
 {
-    unknown_greens(phases_named(signals, name.as_str()), k, greens)
+    unknown_greens(signals.phases_of(name.as_str()), k, greens)
 }
 
 /// Each green is one of the phases.
@@ -92,7 +93,7 @@ fn unknown_green_at(phases: &[RawPhase], k: u32, j: u32, green: &Name) -> Result
 #[tactic(auto, using(crate::proofs::Judgements::places))]
 fn unknown_starts(signals: &[RawSignal]) -> Result<(), BuildFault>
     requires few { length signals.now ≤ 16 }
-    ensures { Judged result (per_item no_signal signals.now unknown_start_at) }
+    ensures { Judged result (per_signal signals.now unknown_start_at) }
 {
     for (s, signal) in signals.iter().enumerate() {
         unknown_start_at(s as u32, signal)?;
@@ -120,7 +121,7 @@ fn unknown_start_at(s: u32, signal: &RawSignal) -> Result<(), BuildFault>
 fn nexts_of_signals(signals: &[RawSignal]) -> Result<(), BuildFault>
     requires few { length signals.now ≤ 16 }
     requires in_range { All IsSignalInRange signals.now }
-    ensures { Judged result (per_item no_signal signals.now unknown_nexts_of) }
+    ensures { Judged result (per_signal signals.now unknown_nexts_of) }
 {
     for (s, signal) in signals.iter().enumerate() {
         unknown_nexts_of(s as u32, signal)?;

@@ -1,26 +1,35 @@
--- The network is the one that the file becomes, which is valid.
-use Rattle.std.proofs.Common.{◌≡◌, length, refl, sym, subst}
+-- The network is the one that the file becomes.
+use Rattle.std.proofs.Common.{◌≡◌, ℕ, List, length, refl, ap, ◌∙◌}
 use Rattle.ct_base.specs.Tables.{table_of}
-use Rattle.ct_base.specs.Validity.{IsValid}
+use Rattle.ct_base.specs.declared.cell.Cell.{Cell}
 use Rattle.ct_base.specs.declared.net.Net.{Net}
+use Rattle.ct_base.specs.declared.signal.Signal.{Signal}
+use Rattle.network_file.specs.declared.raw.RawNet.{RawNet}
+use Rattle.network_file.specs.declared.raw.RawSignal.{RawSignal}
 use Rattle.cell_build.specs.Built.{named_of, signal_built}
+use Rattle.cell_build.specs.Link.{cells_of_links}
 use Rattle.cell_build.specs.Names.{signal_of}
 use Rattle.cell_build.proofs.FaultLaws.{cells_are_few, has_no_fault}
-use Rattle.cell_build.proofs.NetworkLaws.{named_is_valid}
+use Rattle.cell_build.proofs.NumberedLaws.{same_links, same_signals}
 use Rattle.cell_build.proofs.network.net_of.Goals as goal
 
--- the network that is returned
-same_net : (c : goal.After-drop-firsts-2) → ◌≡◌ {A = Net} (record { steps = c.args.raw.now.steps; cells = c.in_ok-cells.cells; signals = c.in_ok-signals.signals }) (named_of c.args.raw.now).net
+-- a network whose parts are those of a file
+same_net : (raw : RawNet) (steps : ℕ) (cells : List Cell) (signals : List Signal) → steps ≡ raw.steps → cells ≡ cells_of_links raw.steps raw.signals raw.links (length raw.links) →
+    signals ≡ table_of (length raw.signals) (λ s. signal_built (signal_of raw.signals s)) → ◌≡◌ {A = Net} (record { steps = steps; cells = cells; signals = signals }) (named_of raw).net
 unfolding named_of
-same_net c =
-    let signals : c.in_ok-signals.signals ≡ table_of (length c.args.raw.now.signals) (λ s. signal_built (signal_of c.args.raw.now.signals s)) = rw c.as_slice-3.ensures at c.in_ok-signals.ensures in
-    rw (c.in_ok-cells.ensures, signals) refl
+same_net raw steps cells signals same_steps same_cells same_signals = rw (same_steps, same_cells, same_signals) refl
+
+-- the signals of signals that are the same
+abbrev built_signals : List RawSignal → List Signal
+built_signals signals = table_of (length signals) (λ s. signal_built (signal_of signals s))
+
+pub first_cells-requires-clause-some : goal.first_cells-requires-clause-some
+first_cells-requires-clause-some c = rw (c.as_slice.ensures, same_links c.raw.view_is) (c.requires.in_range.links.0)
 
 pub first_cells-requires-clause-few : goal.first_cells-requires-clause-few
-first_cells-requires-clause-few c = rw c.as_slice.ensures (cells_are_few c.args.raw.now (has_no_fault c.args.raw.now c.requires.no_fault))
+first_cells-requires-clause-few c = rw (c.as_slice.ensures, same_links c.raw.view_is) (cells_are_few c.args.raw.now (has_no_fault c.args.raw.now c.requires.no_fault))
 
-pub returns-clause-value : goal.returns-clause-value
-returns-clause-value c = same_net c
-
-pub returns-clause-valid : goal.returns-clause-valid
-returns-clause-valid c = subst IsValid (sym (same_net c)) (named_is_valid c.args.raw.now c.requires.in_range c.requires.no_fault)
+pub returns : goal.returns
+returns c =
+    same_net c.args.raw.now c.raw.inside.steps c.in_ok-cells.cells c.in_ok-signals.signals (ap (λ (raw : RawNet). raw.steps) c.raw.view_is) c.in_ok-cells.ensures
+    (c.in_ok-signals.ensures ∙ ap built_signals (c.as_slice-3.ensures ∙ same_signals c.raw.view_is))

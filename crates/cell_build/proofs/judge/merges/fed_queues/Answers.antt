@@ -1,7 +1,8 @@
 use Rattle.std.proofs.Common.{rules, arith}
 use Rattle.cell_build.specs.Names.{no_link}
-use Rattle.cell_build.specs.Places.{fed_queue_at}
-use Rattle.cell_build.proofs.Judgements.{item_more, judged_item}
+use Rattle.cell_build.specs.Refusals.{fed_queue_at}
+use Rattle.refusals.proofs.FirstFaults.{item_more}
+use Rattle.cell_build.proofs.Judgements.{judged_item}
 use Rattle.cell_build.proofs.judge.merges.fed_queues.Goals as goal
 
 pub returns-in_err-fed_queue_at : goal.returns-in_err-fed_queue_at

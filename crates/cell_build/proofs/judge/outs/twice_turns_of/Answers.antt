@@ -1,6 +1,7 @@
 use Rattle.std.proofs.Common.{rules, arith, []}
-use Rattle.cell_build.specs.Places.{twice_turn_at}
-use Rattle.cell_build.proofs.Judgements.{item_more, judged_item}
+use Rattle.cell_build.specs.Refusals.{twice_turn_at}
+use Rattle.refusals.proofs.FirstFaults.{item_more}
+use Rattle.cell_build.proofs.Judgements.{judged_item}
 use Rattle.cell_build.proofs.judge.outs.twice_turns_of.Goals as goal
 
 pub returns-in_err-twice_turn_at : goal.returns-in_err-twice_turn_at

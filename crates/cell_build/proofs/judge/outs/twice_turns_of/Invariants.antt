@@ -1,7 +1,7 @@
 -- No element that was reached has a fault.
 use Rattle.std.proofs.Common.{◌≡◌, [], get_or}
-use Rattle.cell_build.specs.Joined.{join_below}
-use Rattle.cell_build.specs.Places.{twice_turn_at}
+use Rattle.refusals.specs.Faults.{join_below}
+use Rattle.cell_build.specs.Refusals.{twice_turn_at}
 use Rattle.cell_build.proofs.judge.outs.twice_turns_of.Given as goal
 
 abbrev pub invariant-loop-j : goal.invariant-loop-j

@@ -1,7 +1,8 @@
 use Rattle.std.proofs.Common.{rules, arith}
 use Rattle.cell_build.specs.Names.{no_signal}
-use Rattle.cell_build.specs.Places.{phase_rules_of}
-use Rattle.cell_build.proofs.Judgements.{item_more, judged_item}
+use Rattle.cell_build.specs.Refusals.{phase_rules_of}
+use Rattle.refusals.proofs.FirstFaults.{item_more}
+use Rattle.cell_build.proofs.Judgements.{judged_item}
 use Rattle.cell_build.proofs.judge.phases.phase_rules.Goals as goal
 
 pub returns-in_err-phase_rules_of_signal : goal.returns-in_err-phase_rules_of_signal

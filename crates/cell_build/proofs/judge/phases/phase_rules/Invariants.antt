@@ -1,8 +1,8 @@
 -- No element that was reached has a fault.
 use Rattle.std.proofs.Common.{◌≡◌, [], get_or}
-use Rattle.cell_build.specs.Joined.{join_below}
+use Rattle.refusals.specs.Faults.{join_below}
 use Rattle.cell_build.specs.Names.{no_signal}
-use Rattle.cell_build.specs.Places.{phase_rules_of}
+use Rattle.cell_build.specs.Refusals.{phase_rules_of}
 use Rattle.cell_build.proofs.judge.phases.phase_rules.Given as goal
 
 abbrev pub invariant-loop-s : goal.invariant-loop-s

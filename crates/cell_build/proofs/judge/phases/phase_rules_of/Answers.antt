@@ -1,7 +1,8 @@
 use Rattle.std.proofs.Common.{rules, arith}
 use Rattle.cell_build.specs.Names.{no_phase}
-use Rattle.cell_build.specs.Places.{phase_rule_at}
-use Rattle.cell_build.proofs.Judgements.{item_more, judged_item}
+use Rattle.cell_build.specs.Refusals.{phase_rule_at}
+use Rattle.refusals.proofs.FirstFaults.{item_more}
+use Rattle.cell_build.proofs.Judgements.{judged_item}
 use Rattle.cell_build.proofs.judge.phases.phase_rules_of.Goals as goal
 
 pub returns-in_err-phase_rule_at : goal.returns-in_err-phase_rule_at

@@ -1,7 +1,8 @@
 use Rattle.std.proofs.Common.{rules, arith}
 use Rattle.cell_build.specs.Names.{no_link}
-use Rattle.cell_build.specs.Places.{initial_units_at}
-use Rattle.cell_build.proofs.Judgements.{item_more, judged_item}
+use Rattle.cell_build.specs.Refusals.{initial_units_at}
+use Rattle.refusals.proofs.FirstFaults.{item_more}
+use Rattle.cell_build.proofs.Judgements.{judged_item}
 use Rattle.cell_build.proofs.judge.ranges.initial_units.Goals as goal
 
 pub returns-in_err-initial_units_at : goal.returns-in_err-initial_units_at

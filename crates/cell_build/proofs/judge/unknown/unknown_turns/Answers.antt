@@ -1,7 +1,8 @@
 use Rattle.std.proofs.Common.{rules, arith, []}
 use Rattle.cell_build.specs.Names.{link_names}
-use Rattle.cell_build.specs.Places.{unknown_turn_at}
-use Rattle.cell_build.proofs.Judgements.{item_more, judged_item}
+use Rattle.cell_build.specs.Refusals.{unknown_turn_at}
+use Rattle.refusals.proofs.FirstFaults.{item_more}
+use Rattle.cell_build.proofs.Judgements.{judged_item}
 use Rattle.cell_build.proofs.judge.unknown.unknown_turns.Goals as goal
 
 pub returns-in_err-unknown_turn_at : goal.returns-in_err-unknown_turn_at

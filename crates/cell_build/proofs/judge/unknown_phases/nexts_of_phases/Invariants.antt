@@ -1,9 +1,9 @@
 -- No element that was reached has a fault.
 use Rattle.std.proofs.Common.{◌≡◌, [], get_or, map}
 use Rattle.network_file.specs.declared.raw.RawPhase.{RawPhase}
-use Rattle.cell_build.specs.Joined.{join_below}
+use Rattle.refusals.specs.Faults.{join_below}
 use Rattle.cell_build.specs.Names.{no_phase}
-use Rattle.cell_build.specs.Places.{unknown_nexts_at}
+use Rattle.cell_build.specs.Refusals.{unknown_nexts_at}
 use Rattle.cell_build.proofs.judge.unknown_phases.nexts_of_phases.Given as goal
 
 abbrev pub invariant-loop-p : goal.invariant-loop-p

@@ -1,7 +1,8 @@
 use Rattle.std.proofs.Common.{rules, arith}
 use Rattle.cell_build.specs.Names.{no_signal}
-use Rattle.cell_build.specs.Places.{unknown_nexts_of}
-use Rattle.cell_build.proofs.Judgements.{item_more, judged_item}
+use Rattle.cell_build.specs.Refusals.{unknown_nexts_of}
+use Rattle.refusals.proofs.FirstFaults.{item_more}
+use Rattle.cell_build.proofs.Judgements.{judged_item}
 use Rattle.cell_build.proofs.judge.unknown_phases.nexts_of_signals.Goals as goal
 
 pub returns-in_err-unknown_nexts_of : goal.returns-in_err-unknown_nexts_of

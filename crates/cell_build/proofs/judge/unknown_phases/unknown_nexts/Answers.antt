@@ -1,7 +1,8 @@
 use Rattle.std.proofs.Common.{rules, arith, [], map}
 use Rattle.network_file.specs.declared.raw.RawPhase.{RawPhase}
-use Rattle.cell_build.specs.Places.{unknown_next_at}
-use Rattle.cell_build.proofs.Judgements.{item_more, judged_item}
+use Rattle.cell_build.specs.Refusals.{unknown_next_at}
+use Rattle.refusals.proofs.FirstFaults.{item_more}
+use Rattle.cell_build.proofs.Judgements.{judged_item}
 use Rattle.cell_build.proofs.judge.unknown_phases.unknown_nexts.Goals as goal
 
 pub returns-in_err-unknown_next_at : goal.returns-in_err-unknown_next_at

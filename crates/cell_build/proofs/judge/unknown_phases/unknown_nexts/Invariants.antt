@@ -1,8 +1,8 @@
 -- No element that was reached has a fault.
 use Rattle.std.proofs.Common.{◌≡◌, [], get_or, map}
 use Rattle.network_file.specs.declared.raw.RawPhase.{RawPhase}
-use Rattle.cell_build.specs.Joined.{join_below}
-use Rattle.cell_build.specs.Places.{unknown_next_at}
+use Rattle.refusals.specs.Faults.{join_below}
+use Rattle.cell_build.specs.Refusals.{unknown_next_at}
 use Rattle.cell_build.proofs.judge.unknown_phases.unknown_nexts.Given as goal
 
 abbrev pub invariant-loop-j : goal.invariant-loop-j

@@ -1,8 +1,8 @@
 -- No element that was reached has a fault.
 use Rattle.std.proofs.Common.{◌≡◌, [], get_or}
-use Rattle.cell_build.specs.Joined.{join_below}
+use Rattle.refusals.specs.Faults.{join_below}
 use Rattle.cell_build.specs.Names.{no_signal}
-use Rattle.cell_build.specs.Places.{unknown_start_at}
+use Rattle.cell_build.specs.Refusals.{unknown_start_at}
 use Rattle.cell_build.proofs.judge.unknown_phases.unknown_starts.Given as goal
 
 abbrev pub invariant-loop-s : goal.invariant-loop-s

@@ -1,7 +1,0 @@
--- The steps of the piece that were reached have its rate more, and the others what they had.
-use Rattle.std.proofs.Common.{◌≡◌, ℕ, ◌+◌, ◌<◌, ◌&&◌, nat_lt, nat_le, if◌then◌else◌, length, slice_index}
-use Rattle.cell_build.proofs.demand.add_piece.Given as goal
-
-abbrev pub invariant-loop-step : goal.invariant-loop-step
-invariant-loop-step l =
-    (k : ℕ) → k < length l.demand → slice_index l.demand k ≡ slice_index l.initial.demand k + (if nat_le l.piece.first k && nat_lt k l.step then l.piece.rate else 0)
