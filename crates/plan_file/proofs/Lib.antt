@@ -1,0 +1,12 @@
+pub mod Written
+pub mod LineLaws
+pub mod BlockLaws
+pub mod RunLaws
+pub mod TailLaws
+pub mod JudgedLaws
+pub mod PassLaws
+pub mod SpellLaws
+pub mod ReadingLaws
+pub mod ReadLaws
+pub mod WriteLaws
+pub mod KnownValues
