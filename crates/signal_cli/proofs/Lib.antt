@@ -1,3 +1,1 @@
-pub mod ReplayPromises
-pub mod Signals
-pub mod ToldFiles
+pub mod KeptPromises

@@ -1,54 +1,47 @@
--- Which cause each fault of a command has.
-use Rattle.std.specs.Prelude.{◌≡◌, ℕ, ◌⊎◌, List, String, string_bytes, Option, Some, None, Result, Ok, Err}
-use Rattle.std.specs.declared.alloc.Global.{Global}
-use Rattle.shelf_io.specs.Told.{IfTold, IsMissing, Rises}
-use Rattle.cell_build.specs.Built.{Named}
-use Rattle.cell_build.specs.declared.fault.BuildFault.{BuildFault}
-use Rattle.cell_build.specs.declared.fault.BuildFault.TheVariants as unbuilt
+-- How what a part of a command found stands to what the told files deserve, and what is put for it.
+use Rattle.std.specs.Prelude.{◌≡◌, ℕ, ◌⊎◌, List, Option, Some, None, Result, Ok, Err, IfSome}
+use Rattle.shelf_io.specs.Told.{Rises}
 use Rattle.network_file.specs.declared.fault.NetFault.{NetFault}
 use Rattle.network_file.specs.declared.fault.NetFault.TheVariants as unread
-use Rattle.signal_cli.specs.Answers.{Answer, replay_answer}
+use Rattle.cell_build.specs.declared.fault.BuildFault.{BuildFault}
+use Rattle.cell_build.specs.declared.fault.BuildFault.TheVariants as unbuilt
+use Rattle.plan_file.specs.declared.fault.PlanFault.{PlanFault}
+use Rattle.plan_file.specs.declared.fault.PlanFault.TheVariants as unplanned
 use Rattle.signal_cli.specs.Faults.{line_of, status_of}
-use Rattle.signal_cli.specs.Worlds.{Cabinet}
+use Rattle.signal_cli.specs.Worlds.{Cabinet, Output, Puts, PutsAsFar, PutsFront}
 use Rattle.signal_cli.specs.declared.fault.Fault.{Fault}
-use Rattle.signal_cli.specs.declared.fault.Fault.TheVariants.{Words, NetworkLong, NetworkRefused, Read, Memory}
+use Rattle.signal_cli.specs.declared.fault.Fault.TheVariants.{Network, Build, Plan, Read, Memory}
 
--- the fault as an answer
-abbrev pub answer_of : Fault → Answer
-answer_of fault = record { status = status_of fault; text = line_of fault }
-
--- a reader's and a builder's faults as those of the program
+-- the faults of the parts as those of the program
 abbrev pub unread_of : NetFault → Fault
-unread_of unread.Refused = NetworkRefused
 unread_of unread.Memory = Memory
+unread_of fault = Network fault
 
 abbrev pub unbuilt_of : BuildFault → Fault
 unbuilt_of unbuilt.Memory = Memory
-unbuilt_of fault = NetworkRefused
+unbuilt_of fault = Build fault
 
--- the cause of a fault of `replay`: what the told file deserves, a failed read or a file that is not there; want of
--- memory needs none
-abbrev pub HasCause : List ℕ → Cabinet → Cabinet → Fault → Type 0
-HasCause network shelf shelf' Words = ⊥
-HasCause network shelf shelf' NetworkLong = IfTold shelf.files network (λ bytes. replay_answer bytes ≡ answer_of NetworkLong)
-HasCause network shelf shelf' NetworkRefused = IfTold shelf.files network (λ bytes. replay_answer bytes ≡ answer_of NetworkRefused)
-HasCause network shelf shelf' Read = Rises shelf.read_faults shelf'.read_faults ⊎ IsMissing shelf.files network
-HasCause network shelf shelf' Memory = Unit {0}
+abbrev pub unplanned_of : PlanFault → Fault
+unplanned_of unplanned.Memory = Memory
+unplanned_of fault = Plan fault
 
--- the network that is spelled, or the fault where none is
-abbrev pub GivesNetwork : Result Named Fault → Option Named → Type 0
-GivesNetwork (Ok named) spelled = spelled ≡ Some named
-GivesNetwork (Err NetworkRefused) spelled = spelled ≡ None
-GivesNetwork (Err Memory) spelled = Unit {0}
-GivesNetwork (Err Words) spelled = ⊥
-GivesNetwork (Err NetworkLong) spelled = ⊥
-GivesNetwork (Err Read) spelled = ⊥
+-- an answer for which nothing was read is what is deserved; want of memory says nothing
+abbrev pub Gives : {X : Type 0} → Result X Fault → Result X Fault → Type 0
+Gives (Err Memory) deserved = Unit {0}
+Gives (Err Read) deserved = ⊥
+Gives (Ok x) deserved = deserved ≡ Ok x
+Gives (Err fault) deserved = deserved ≡ Err fault
 
--- the text, unless memory was wanting
-abbrev pub GivesText : Result (String Global) Fault → List ℕ → Type 0
-GivesText (Ok text) lines = string_bytes text ≡ lines
-GivesText (Err Memory) lines = Unit {0}
-GivesText (Err Words) lines = ⊥
-GivesText (Err NetworkLong) lines = ⊥
-GivesText (Err NetworkRefused) lines = ⊥
-GivesText (Err Read) lines = ⊥
+-- the same of what the told files deserve, where a read may have failed too
+abbrev pub Finds : {X : Type 0} → Result X Fault → Option (Result X Fault) → Cabinet → Cabinet → Type 0
+Finds (Err Memory) deserved before after = Unit {0}
+Finds (Err Read) deserved before after = Rises before.read_faults after.read_faults ⊎ (deserved ≡ Some (Err Read))
+Finds (Ok x) deserved before after = IfSome deserved (λ d. d ≡ Ok x)
+Finds (Err fault) deserved before after = IfSome deserved (λ d. d ≡ Err fault)
+
+-- what was put for an answer: its text whole with status 0 or a front of it with status 7; or the line of the fault, or of want
+-- of memory, as far as puts did not fail
+abbrev pub PutsReply : Result (List ℕ) Fault → Output → Output → ℕ → Type 0
+PutsReply (Ok text) before after status = ((status ≡ 0) × Puts before after text) ⊎ ((status ≡ 7) × PutsFront before after text)
+PutsReply (Err fault) before after status =
+    ((status ≡ status_of fault) × PutsAsFar before after (line_of fault)) ⊎ ((status ≡ 8) × PutsAsFar before after (line_of Memory))

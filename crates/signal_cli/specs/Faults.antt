@@ -1,19 +1,27 @@
 -- The status and the line of each fault (README.md, "Statuses").
-use Rattle.std.specs.Prelude.{ℕ, List, codes}
-use Rattle.signal_cli.specs.Answers.{line}
+use Rattle.std.specs.Prelude.{ℕ, List, [], ◌∷◌, ◌++◌, codes}
+use Rattle.signal_cli.specs.FaultLines.{build_text, net_text, plan_text}
 use Rattle.signal_cli.specs.declared.fault.Fault.{Fault}
-use Rattle.signal_cli.specs.declared.fault.Fault.TheVariants.{Words, NetworkLong, NetworkRefused, Read, Memory}
+use Rattle.signal_cli.specs.declared.fault.Fault.TheVariants.{NetworkLong, Network, Build, PlanLong, Plan, Read, Memory}
 
 abbrev pub status_of : Fault → ℕ
-status_of Words = 2
 status_of NetworkLong = 3
-status_of NetworkRefused = 3
+status_of (Network fault) = 3
+status_of (Build fault) = 3
+status_of PlanLong = 4
+status_of (Plan fault) = 4
 status_of Read = 6
 status_of Memory = 8
 
-abbrev pub line_of : Fault → List ℕ
-line_of Words = line (codes "words")
+-- a text as a line
+abbrev pub line : List ℕ → List ℕ
+line text = text ++ 10 ∷ []
+
+unfoldable pub line_of : Fault → List ℕ
 line_of NetworkLong = line (codes "network long")
-line_of NetworkRefused = line (codes "network refused")
+line_of (Network fault) = line (codes "network " ++ net_text fault)
+line_of (Build fault) = line (codes "network " ++ build_text fault)
+line_of PlanLong = line (codes "plan long")
+line_of (Plan fault) = line (codes "plan " ++ plan_text fault)
 line_of Read = line (codes "read fault")
 line_of Memory = line (codes "want of memory")

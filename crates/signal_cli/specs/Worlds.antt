@@ -37,7 +37,3 @@ pub record PutsFront (before after : Output) (text : List ℕ) : Type 0 where
 -- the text was put, whole or as far as puts did not fail
 abbrev pub PutsAsFar : Output → Output → List ℕ → Type 0
 PutsAsFar before after text = Puts before after text ⊎ PutsFront before after text
-
--- an answer was put: whole with status 0, or with status 7 a front of it
-abbrev pub PutsAnswer : Output → Output → List ℕ → ℕ → Type 0
-PutsAnswer before after text status = ((status ≡ 0) × Puts before after text) ⊎ ((status ≡ 7) × PutsFront before after text)

@@ -1,24 +1,29 @@
-//! Why a command was not done: the status that it ends with, and the line that says so.
+//! Why a command was not done, and the status that it ends with.
 
 ghost use Rattle.std.specs.Prelude.{◌≡◌};
-ghost use Rattle.signal_cli.specs.Causes.{unbuilt_of, unread_of};
-ghost use Rattle.signal_cli.specs.Faults.{line_of, status_of};
+ghost use Rattle.signal_cli.specs.Causes.{unbuilt_of, unplanned_of, unread_of};
+ghost use Rattle.signal_cli.specs.Faults.{status_of};
 ghost use Rattle.signal_cli.specs.declared.fault.Fault.TheVariants as fault;
 
 use cell_build::BuildFault;
 use ct_base::Memory;
 use network_file::NetFault;
+use plan_file::PlanFault;
 use std::alloc::AllocError;
 
-/// A cause that ends a run before its answer is written.
+/// A cause that ends a command before its answer is written.
 #[derive(Clone, Copy, Debug, PartialEq, Eq)]
 pub enum Fault {
-    /// The words are of no form.
-    Words,
     /// The network file is longer than its limit.
     NetworkLong,
-    /// The network file is no network.
-    NetworkRefused,
+    /// The network file spells no network.
+    Network(NetFault),
+    /// The links and signals of the network file make no network of cells.
+    Build(BuildFault),
+    /// The plan file is longer than its limit.
+    PlanLong,
+    /// The plan file spells no plan for the network, or the network wants a plan.
+    Plan(PlanFault),
     /// A read failed, or a file is not there.
     Read,
     /// Memory was wanting.
@@ -31,23 +36,10 @@ impl Fault {
         ensures { result ≡ status_of self }
     {
         match self {
-            Fault::Words => 2,
-            Fault::NetworkLong | Fault::NetworkRefused => 3,
+            Fault::NetworkLong | Fault::Network(_) | Fault::Build(_) => 3,
+            Fault::PlanLong | Fault::Plan(_) => 4,
             Fault::Read => 6,
             Fault::Memory => 8,
-        }
-    }
-
-    /// The line that is put.
-    pub fn line(self) -> &'static str
-        ensures { result.now ≡ line_of self }
-    {
-        match self {
-            Fault::Words => "words\n",
-            Fault::NetworkLong => "network long\n",
-            Fault::NetworkRefused => "network refused\n",
-            Fault::Read => "read fault\n",
-            Fault::Memory => "want of memory\n",
         }
     }
 }
@@ -57,8 +49,8 @@ impl From<NetFault> for Fault {
 
     fn from(fault: NetFault) -> Fault {
         match fault {
-            NetFault::Refused => Fault::NetworkRefused,
             NetFault::Memory => Fault::Memory,
+            fault => Fault::Network(fault),
         }
     }
 }
@@ -69,7 +61,18 @@ impl From<BuildFault> for Fault {
     fn from(fault: BuildFault) -> Fault {
         match fault {
             BuildFault::Memory => Fault::Memory,
-            _ => Fault::NetworkRefused,
+            fault => Fault::Build(fault),
+        }
+    }
+}
+
+impl From<PlanFault> for Fault {
+    ghost from_gives = { λ fault made. made ≡ unplanned_of fault };
+
+    fn from(fault: PlanFault) -> Fault {
+        match fault {
+            PlanFault::Memory => Fault::Memory,
+            fault => Fault::Plan(fault),
         }
     }
 }

@@ -4,6 +4,8 @@
 mod command;
 mod commands;
 mod fault;
+mod fault_line;
+mod input;
 mod output;
 #[cfg(test)]
 mod tests;

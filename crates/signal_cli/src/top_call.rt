@@ -6,9 +6,8 @@ ghost use Rattle.signal_cli.specs.Promises.{Keeps};
 ghost use Rattle.signal_cli.specs.Worlds.{cabinet, output};
 
 use crate::command::{Command, parse};
-use crate::commands::replay::replay;
-use crate::fault::Fault;
-use crate::output::put_fault;
+use crate::commands::replay::{replay, replay_plan};
+use crate::output::put_words;
 use shelf_io::{Shelf, Sink, Words};
 use std::alloc::Global;
 
@@ -23,6 +22,9 @@ pub fn run<F: Shelf, K: Sink>(alloc: Global, words: &Words, shelf: &mut F, out: 
 {
     match parse(words) {
         Some(Command::Replay { network }) => replay(alloc, network, shelf, out),
-        None => put_fault(out, Fault::Words),
+        Some(Command::ReplayPlan { network, plan }) => replay_plan(
+            alloc, network, plan, shelf, out,
+        ),
+        None => put_words(out),
     }
 }
