@@ -31,37 +31,43 @@ def network(steps, rates):
     return '\n'.join(lines) + '\n'
 
 
-def instructions(folder, net):
-    """The instructions of a whole run, and what it printed."""
+def instructions(folder, files):
+    """The instructions of the replay of a network, alone or with its plan, and what it printed."""
     out = folder / 'callgrind.out'
-    done = subprocess.run(['valgrind', '--tool=callgrind', '--callgrind-out-file=%s' % out, PROGRAM, 'replay', net],
+    done = subprocess.run(['valgrind', '--tool=callgrind', '--callgrind-out-file=%s' % out, PROGRAM, 'replay'] + files,
                           stdout=subprocess.PIPE, stderr=subprocess.PIPE, check=True)
     total = re.search(r'^(?:totals|summary): (\d+)', out.read_text(), re.M)
     return int(total.group(1)), done.stdout.decode()
 
 
-def peak_memory(net):
+def peak_memory(files):
     """The most memory that a plain run held, in kilobytes."""
     code = ('import resource, subprocess, sys; subprocess.run(sys.argv[1:], stdout=subprocess.DEVNULL); '
             'print(resource.getrusage(resource.RUSAGE_CHILDREN).ru_maxrss)')
-    done = subprocess.run([sys.executable, '-c', code, PROGRAM, 'replay', net], stdout=subprocess.PIPE, check=True)
+    done = subprocess.run([sys.executable, '-c', code, PROGRAM, 'replay'] + files, stdout=subprocess.PIPE, check=True)
     return int(done.stdout)
 
 
-def main():
+def report(folder, long, short, cells):
+    """Prints what the replay over 240 steps costs, and what a cell and step costs by the difference to 120 steps."""
     if not PROGRAM.exists():
         sys.exit('bench: the program is not built; run ./planner first')
+    whole, printed = instructions(folder, long)
+    half, _ = instructions(folder, short)
+    print(printed, end='')
+    print('instructions of the whole run %d' % whole)
+    print('instructions of a cell and step %.1f' % ((whole - half) / (120 * cells)))
+    print('peak memory %d kB' % peak_memory(long))
+
+
+def main():
     with tempfile.TemporaryDirectory() as name:
         folder = pathlib.Path(name)
         long, short = folder / 'long.toml', folder / 'short.toml'
         long.write_text(network(240, 240))
         short.write_text(network(120, 120))
-        whole, printed = instructions(folder, long)
-        half, _ = instructions(folder, short)
-        print(printed, end='')
-        print('instructions of the whole run %d' % whole)
-        print('instructions of a cell and step %.1f' % ((whole - half) / (120 * CELLS)))
-        print('peak memory %d kB' % peak_memory(long))
+        report(folder, [long], [short], CELLS)
 
 
-main()
+if __name__ == '__main__':
+    main()

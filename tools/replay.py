@@ -3,8 +3,7 @@
 
 usage: tools/replay.py NET [PLAN]
 
-It is for accepted files: it refuses nothing. It serves every key of the model, also those that the program does not
-read yet, so that examples can be compared as they come.
+It is for accepted files: it refuses nothing (tools/judge.py says what is refused). It serves every key of the model.
 """
 import sys
 import tomllib
@@ -43,7 +42,7 @@ def cells_of(net):
 
 
 def letters_of(net, text):
-    """For each signal the phase that is green at each step, or None while it is clearing."""
+    """For each signal the phase that is green at each step, or None in its clearance."""
     words, phases = {}, {}
     for signal in net.get('signal', []):
         phases[signal['name']] = {phase['name']: phase for phase in signal['phase']}
@@ -98,4 +97,5 @@ def main():
     print('delay %d\nleft %d' % replay(net, plan))
 
 
-main()
+if __name__ == '__main__':
+    main()
