@@ -3,3 +3,4 @@ pub mod Passing
 pub mod Spreading
 pub mod Steps
 pub mod Adding
+pub mod Noting

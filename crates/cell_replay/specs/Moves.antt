@@ -10,6 +10,7 @@ use Rattle.ct_base.specs.declared.cell.Out.{Out}
 use Rattle.ct_base.specs.declared.cell.Out.TheVariants.{Exit, To, Turns}
 use Rattle.traffic_model.specs.Flow.{receiving, share, units_of_flow}
 use Rattle.traffic_model.specs.Occupancy.{demand_at}
+use Rattle.cell_replay.specs.declared.lines.Line.{Line}
 
 -- the units stand in the cells: a number per cell, no more on a road than its storage, and no number is large
 pub record Fit (cells : List Cell) (units : List ℕ) : Type 0 where
@@ -75,3 +76,8 @@ entered cells outflows k j = sum_below k (λ i. passed (cell_of cells i).out (sl
 abbrev pub held_after : List Cell → ℕ → List ℕ → List ℕ → ℕ → ℕ
 held_after cells t units outflows j =
     (slice_index units j - slice_index outflows j) + entered cells outflows (length cells) j + demand_at (cell_of cells j) t
+
+-- the line of cell i in step t, from what each cell holds as the step begins and what leaves each in it
+abbrev pub line_of : ℕ → List ℕ → List ℕ → ℕ → Line
+line_of t units outflows i =
+    record { step = t; cell = i; units = slice_index units i; out = slice_index outflows i; delay = slice_index units i - slice_index outflows i }

@@ -1,13 +1,16 @@
 //! The replay of a signal plan: it moves the traffic of a network step by step, exactly as the model's
-//! recursion says, and adds up the delay.
+//! recursion says, and adds up the delay or keeps a line for each step and cell.
 #![tactic(auto)]
 
 mod flow;
+pub mod laws;
+mod lines;
 mod moves;
 mod replay;
 #[cfg(test)]
 mod tests;
 mod whole_plan;
 
+pub use lines::{Line, Trace, trace};
 pub use replay::{Replay, StepDelay, Totals};
 pub use whole_plan::{delay, prefix_delay, totals};

@@ -100,6 +100,20 @@ impl Replay {
         self.outflows[cell as usize]
     }
 
+    /// The units that each cell holds.
+    pub(crate) fn units(&self) -> &[u32]
+        ensures { result.now ≡ self.now.units }
+    {
+        self.units.as_slice()
+    }
+
+    /// The units that left each cell in the step before; 0 at step 0.
+    pub(crate) fn outflows(&self) -> &[u32]
+        ensures { result.now ≡ self.now.outflows }
+    {
+        self.outflows.as_slice()
+    }
+
     /// The units in all cells.
     pub fn left(&self) -> u64
         ensures { result ≡ sum self.now.units }

@@ -4,7 +4,7 @@ ghost use Rattle.std.specs.Prelude.{◌≡◌, length, IsTrue};
 ghost use Rattle.ct_base.specs.Validity.{IsValid};
 ghost use Rattle.traffic_model.specs.Runs.{HasWords};
 
-use crate::{Replay, delay, prefix_delay, totals};
+use crate::{Line, Replay, delay, prefix_delay, totals, trace};
 use ct_base::{
     Cell, Gate, Kind, Letter, Listed, Memory, Net, Out, Phase, Plan, Signal, Word, valid,
 };
@@ -255,5 +255,35 @@ fn a_diverge_sends_whole_parcels(rt: HostRuntime) -> Result<(), Fail> {
     ];
     let left = [replay.outflow(0), replay.outflow(1), replay.outflow(2)];
     assert_eq!(rt; (replay.now(), held, left), (1, [2, 2, 1], [3, 0, 0]));
+    Ok(())
+}
+
+/// A line by its fields in their order.
+fn line(step: u32, cell: u32, units: u32, out: u32, delay: u32) -> Line {
+    Line {
+        step,
+        cell,
+        units,
+        out,
+        delay,
+    }
+}
+
+#[test]
+fn the_trace_of_a_diverge(rt: HostRuntime) -> Result<(), Fail> {
+    let alloc = rt.alloc();
+    let net = diverge(alloc)?;
+    let none = no_plan(alloc);
+    assert!(rt; valid(&net));
+    assert!(rt; has_words(&net, &none));
+    let lines = [
+        line(0, 0, 5, 3, 2),
+        line(0, 1, 0, 0, 0),
+        line(0, 2, 0, 0, 0),
+        line(1, 0, 2, 0, 2),
+        line(1, 1, 2, 2, 0),
+        line(1, 2, 1, 1, 0),
+    ];
+    assert_eq!(rt; trace(alloc, &net, &none)?.as_slice(), lines.as_slice());
     Ok(())
 }

@@ -7,9 +7,13 @@ use Rattle.ct_base.specs.declared.plan.Letter.TheVariants.{Clear}
 use Rattle.traffic_model.specs.Flow.{outflow}
 use Rattle.traffic_model.specs.Occupancy.{occupancies}
 
--- the delay of one step: the units that do not leave their cell
+-- the delay of a cell in one step: the units that do not leave it
+abbrev pub cell_delay : List Cell → List Letter → List ℕ → ℕ → ℕ
+cell_delay cells letters units i = slice_index units i - outflow cells letters units i
+
+-- the delay of one step: that of all cells
 unfoldable pub step_delay : List Cell → List Letter → List ℕ → ℕ
-step_delay cells letters units = sum_below (length cells) (λ i. slice_index units i - outflow cells letters units i)
+step_delay cells letters units = sum_below (length cells) (λ i. cell_delay cells letters units i)
 
 -- the delay of the first k steps, in units times steps
 unfoldable pub delay_of : List Cell → (ℕ → List Letter) → ℕ → ℕ

@@ -2,14 +2,14 @@ use Rattle.std.proofs.Common.{◌≡◌, ◌+◌, ◌-◌, length, slice_index, 
 use Rattle.std.proofs.lemmas.Grind.{common_steps}
 use Rattle.ct_base.proofs.TableLaws.{sum_below-zero, sum_below-suc, fill}
 use Rattle.ct_base.specs.Tables.{sum_below}
-use Rattle.traffic_model.specs.Delay.{step_delay}
+use Rattle.traffic_model.specs.Delay.{cell_delay, step_delay}
 use Rattle.traffic_model.specs.Flow.{outflow}
 use Rattle.cell_replay.proofs.moves.send.Goals as goal
 
 pub loop-number-init : goal.loop-number-init
 loop-number-init c = record {
   each = λ i below. absurd (omega arith);
-  delay = sym (sum_below-zero (λ i. slice_index c.args.units.now i - outflow c.args.cells.now c.args.letters.now c.args.units.now i));
+  delay = sym (sum_below-zero (λ i. cell_delay c.args.cells.now c.args.letters.now c.args.units.now i));
   small = omega arith;
 }
 
@@ -17,9 +17,9 @@ pub loop-number-preserved : goal.loop-number-preserved
 loop-number-preserved c = record {
   each = grind (arith, common_steps, c.loop-number.invariant.each);
   delay =
-      let more : sum_below (c.loop-number.number + 1) (λ i. slice_index c.args.units.now i - outflow c.args.cells.now c.args.letters.now c.args.units.now i)
+      let more : sum_below (c.loop-number.number + 1) (λ i. cell_delay c.args.cells.now c.args.letters.now c.args.units.now i)
       ≡ c.loop-number.delay + (slice_index c.args.units.now c.loop-number.number - c.units_leaving-leaving.result) =
-      sum_below-suc c.loop-number.number (λ i. slice_index c.args.units.now i - outflow c.args.cells.now c.args.letters.now c.args.units.now i)
+      sum_below-suc c.loop-number.number (λ i. cell_delay c.args.cells.now c.args.letters.now c.args.units.now i)
       ∙ omega (arith, c.loop-number.invariant.delay, c.units_leaving-leaving.ensures.value) in
       omega (arith, more, c.from-delay.ensures);
   small = omega (arith, c.type_inv.units c.loop-number.number, c.from-delay.ensures);
@@ -34,4 +34,4 @@ pub returns-clause-delay : goal.returns-clause-delay
 unfolding step_delay
 returns-clause-delay c =
     let all : c.loop-number.number ≡ length c.args.cells.now = omega arith in
-    c.loop-number.invariant.delay ∙ ap (λ n. sum_below n (λ i. slice_index c.args.units.now i - outflow c.args.cells.now c.args.letters.now c.args.units.now i)) all
+    c.loop-number.invariant.delay ∙ ap (λ n. sum_below n (λ i. cell_delay c.args.cells.now c.args.letters.now c.args.units.now i)) all
