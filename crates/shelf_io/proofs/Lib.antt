@@ -1,2 +1,4 @@
 pub mod Fronts
+pub mod Growing
 pub mod NamedFiles
+pub mod Notes

@@ -17,7 +17,7 @@ use Rattle.shelf_io.specs.FileList.{is_named, bytes_named, files_of}
 use Rattle.shelf_io.specs.declared.file_map.File.{File}
 
 -- what the map has at a name once one more file is put into it
-get_inserted : (files : Files) (name bytes q : List ℕ) → map.get (map.insert files name bytes) q ≡ cond (bytes_eq q name) (Some bytes) (map.get files q)
+pub get_inserted : (files : Files) (name bytes q : List ℕ) → map.get (map.insert files name bytes) q ≡ cond (bytes_eq q name) (Some bytes) (map.get files q)
 get_inserted files name bytes q =
     map.get-insert nat_list_cmp_total files name bytes q
     ∙ ap (λ same. cond same (Some bytes) (map.get files q)) (is_eq-slice_cmp q name)

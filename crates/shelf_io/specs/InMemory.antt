@@ -1,9 +1,9 @@
 -- What a shelf and a sink in memory show.
-use Rattle.std.specs.Prelude.{◌==◌, ◌++◌, ℕ, Bool, List, refl}
+use Rattle.std.specs.Prelude.{◌==◌, ◌++◌, ℕ, Bool, List, Some, refl}
 use Rattle.std.specs.List.{list_any}
 use Rattle.std.specs.Coded.{Coded, code_by, coded×, coded_list, coded_ℕ}
 use Rattle.std.specs.FinMap as map
-use Rattle.shelf_io.specs.Told.{Files}
+use Rattle.shelf_io.specs.Told.{Files, ShelfState, SinkState}
 use Rattle.shelf_io.specs.Counts.{risen}
 
 -- the files, how many calls there were, the numbers of the calls that are to fail, the greatest number of bytes per
@@ -24,6 +24,13 @@ pub record SinkInMemory : Type 0 where
   pub failing : List ℕ
   pub most : ℕ
   pub faults : ℕ
+
+-- what they are as a shelf and as a sink: they tell their content
+abbrev pub state_of : ShelfInMemory → ShelfState
+state_of shelf = record { files = Some shelf.files; read_faults = shelf.read_faults; write_faults = shelf.write_faults }
+
+abbrev pub sink_state_of : SinkInMemory → SinkState
+sink_state_of sink = record { taken = Some sink.taken; faults = sink.faults }
 
 -- after so many calls the next is to fail; calls are numbered from 1
 abbrev pub is_to_fail : ℕ → List ℕ → Bool

@@ -4,7 +4,7 @@ ghost use Rattle.std.specs.Prelude.{◌≡◌, ◌++◌, [], None, IsSome, Match
 ghost use Rattle.std.specs.FinMap as map;
 ghost use Rattle.shelf_io.specs.FileList.{is_named, files_of};
 
-use listed::{Listed, Memory, Text};
+use listed::{Duplicate, Listed, Memory, Text};
 use std::alloc::Global;
 use std::marker::Model;
 use std::mem;
@@ -14,6 +14,14 @@ use std::mem;
 pub struct File {
     pub name: Text,
     pub bytes: Listed<u8>,
+}
+
+impl Duplicate for File {
+    fn copy(&self) -> Result<File, Memory> {
+        let name = self.name.copy()?;
+        let bytes = self.bytes.copy()?;
+        Ok(File { name, bytes })
+    }
 }
 
 /// Files with their names. Of two files of one name the first stands.

@@ -1,16 +1,18 @@
 //! The files and the standard output of the host, as a shelf and as a sink. They tell nothing of their content:
 //! this is the edge that is trusted.
 
-ghost use Rattle.std.specs.Prelude.{◌≡◌, ◌≤◌, None, length, IfOk};
+ghost use Rattle.std.specs.Prelude.{◌≡◌, ◌≤◌, None, if◌then◌else◌, length, IfOk, is_ok};
+ghost use Rattle.std.specs.Io.KnownBytes.{WriteAppends};
+ghost use Rattle.shelf_io.specs.Counts.{risen};
 ghost use Rattle.shelf_io.specs.Told.{IsSomeOf};
+ghost use Rattle.shelf_io.specs.Host.{AddsOpened, ReadsAt, ReadsOpened};
 
 use crate::counts::counted;
+use crate::opens::Opens;
 use crate::shelf::{Failed, Shelf};
 use crate::sink::Sink;
-use std::fs::{File, OpenOptions};
 use std::io;
 use std::io::{Read, Seek, SeekFrom, Write};
-use std::rt::Files;
 
 /// The files of a runtime, by their paths. A file is opened anew at each call.
 #[derive(Drop)]
@@ -20,16 +22,17 @@ pub struct HostShelf<R> {
     write_faults: u64,
 }
 
-/// The standard output of a runtime, unbuffered.
+/// A writer as a sink: each call is one write. At the host's standard output it is unbuffered.
 #[derive(Drop)]
-pub struct HostSink<R> {
-    runtime: R,
+pub struct HostSink<W> {
+    writer: W,
     faults: u64,
 }
 
 impl<R> HostShelf<R> {
     /// The files of this runtime, of which no call has failed.
     pub fn new(runtime: R) -> HostShelf<R>
+        ensures runtime { result.runtime ≡ runtime }
         ensures read_faults { result.read_faults ≡ 0 }
         ensures write_faults { result.write_faults ≡ 0 }
     {
@@ -41,77 +44,99 @@ impl<R> HostShelf<R> {
     }
 }
 
-impl<R> HostSink<R> {
-    /// The standard output of this runtime, of which no call has failed.
-    pub fn new(runtime: R) -> HostSink<R>
-        ensures { result.faults ≡ 0 }
+impl<W> HostSink<W> {
+    /// This writer, of which no call has failed.
+    pub fn new(writer: W) -> HostSink<W>
+        ensures writer { result.writer ≡ writer }
+        ensures faults { result.faults ≡ 0 }
     {
-        HostSink { runtime, faults: 0 }
+        HostSink { writer, faults: 0 }
     }
 }
 
-impl<R: Files> Shelf for HostShelf<R> {
-    ghost files = { λ _. None };
+impl<R: Opens> Shelf for HostShelf<R> {
+    ghost state = { λ shelf. record { files = None; read_faults = shelf.read_faults; write_faults = shelf.write_faults } };
 
-    ghost read_faults = { λ shelf. shelf.read_faults };
-
-    ghost write_faults = { λ shelf. shelf.write_faults };
-
-    fn read(&mut self, name: &str, at: u64, into: &mut [u8]) -> Result<usize, Failed> {
-        let read = read_once(&self.runtime, name, at, into);
+    fn read(&mut self, name: &str, at: u64, into: &mut [u8]) -> Result<usize, Failed>
+        ensures opened { ReadsOpened (λ opened. R.reads self.old.runtime name.now opened self.new.runtime) R.Reader.stream_position R.Reader.remaining at result into.new }
+        ensures count { IfOk result (λ k. k ≤ length into.new) }
+        ensures counted { self.new.read_faults ≡ (if is_ok result then self.old.read_faults else risen self.old.read_faults) }
+        ensures kept { self.new.write_faults ≡ self.old.write_faults }
+    {
+        let read = read_once(&mut self.runtime, name, at, into);
         counted(read, &mut self.read_faults)
     }
 
-    fn create(&mut self, name: &str) -> Result<(), Failed> {
-        let created = create_once(&self.runtime, name);
+    fn create(&mut self, name: &str) -> Result<(), Failed>
+        ensures made { R.makes self.old.runtime name.now (is_ok result) self.new.runtime }
+        ensures counted { self.new.write_faults ≡ (if is_ok result then self.old.write_faults else risen self.old.write_faults) }
+        ensures kept { self.new.read_faults ≡ self.old.read_faults }
+    {
+        let created = self.runtime.make_empty(name);
         counted(created, &mut self.write_faults)
     }
 
-    fn append(&mut self, name: &str, bytes: &[u8]) -> Result<usize, Failed> {
-        let written = append_once(&self.runtime, name, bytes);
-        counted(written, &mut self.write_faults)
+    fn append(&mut self, name: &str, bytes: &[u8]) -> Result<usize, Failed>
+        ensures opened { AddsOpened (R.adds self.old.runtime name.now) R.closes R.Writer.contents result bytes.now self.new.runtime }
+        ensures count { IfOk result (IsSomeOf bytes.now) }
+        ensures counted { self.new.write_faults ≡ (if is_ok result then self.old.write_faults else risen self.old.write_faults) }
+        ensures kept { self.new.read_faults ≡ self.old.read_faults }
+    {
+        let added = append_once(&mut self.runtime, name, bytes);
+        counted(added, &mut self.write_faults)
     }
 }
 
-impl<R: Print> Sink for HostSink<R> {
-    ghost taken = { λ _. None };
+impl<W: Write> Sink for HostSink<W> {
+    ghost state = { λ sink. record { taken = None; faults = sink.faults } };
 
-    ghost faults = { λ sink. sink.faults };
-
-    fn take(&mut self, bytes: &[u8]) -> Result<usize, Failed> {
-        let written = some_of(self.runtime.write_some(bytes), bytes);
+    fn take(&mut self, bytes: &[u8]) -> Result<usize, Failed>
+        ensures written { WriteAppends (W.contents self.old.writer) (W.contents self.new.writer) result bytes.now }
+        ensures count { IfOk result (IsSomeOf bytes.now) }
+        ensures counted { self.new.faults ≡ (if is_ok result then self.old.faults else risen self.old.faults) }
+    {
+        let written = write_some(&mut self.writer, bytes);
         counted(written, &mut self.faults)
     }
 }
 
-fn read_once<R: Files>(runtime: &R, name: &str, at: u64, into: &mut [u8]) -> io::Result<usize>
-    ensures { IfOk result (λ k. k ≤ length into.new) }
+/// Opens a file and reads of it once.
+fn read_once<R: Opens>(runtime: &mut R, name: &str, at: u64, into: &mut [u8]) -> io::Result<usize>
+    ensures count { IfOk result (λ k. k ≤ length into.new) }
+    ensures opened { ReadsOpened (λ opened. R.reads runtime.old name.now opened runtime.new) R.Reader.stream_position R.Reader.remaining at result into.new }
 {
-    let mut file = File::open(runtime, name)?;
+    let mut file = runtime.open_to_read(name)?;
+    read_at(&mut file, at, into)
+}
+
+/// Reads of a file from a place on, once.
+fn read_at<F: Read + Seek>(file: &mut F, at: u64, into: &mut [u8]) -> io::Result<usize>
+    ensures count { IfOk result (λ k. k ≤ length into.new) }
+    ensures reads { IfOk result (λ k. ReadsAt F.stream_position F.remaining file.old at k into.new file.new) }
+{
     file.seek(SeekFrom::Start(at))?;
     file.read(into)
 }
 
-fn create_once<R: Files>(runtime: &R, name: &str) -> io::Result<()> {
-    File::create(runtime, name)?;
-    Ok(())
+/// Opens a file and adds to it once.
+fn append_once<R: Opens>(runtime: &mut R, name: &str, bytes: &[u8]) -> io::Result<usize>
+    ensures count { IfOk result (IsSomeOf bytes.now) }
+    ensures opened { AddsOpened (R.adds runtime.old name.now) R.closes R.Writer.contents result bytes.now runtime.new }
+{
+    let mut file = runtime.open_to_add(name)?;
+    let written = write_some(&mut file, bytes);
+    runtime.close(file);
+    written
 }
 
-fn append_once<R: Files>(runtime: &R, name: &str, bytes: &[u8]) -> io::Result<usize>
-    ensures { IfOk result (IsSomeOf bytes.now) }
+/// Writes once. A write that takes nothing of bytes that are some is a failure.
+fn write_some<W: Write>(writer: &mut W, bytes: &[u8]) -> io::Result<usize>
+    ensures count { IfOk result (IsSomeOf bytes.now) }
+    ensures written { WriteAppends (W.contents writer.old) (W.contents writer.new) result bytes.now }
 {
-    let mut file = OpenOptions::new().append(true).open(runtime, name)?;
-    some_of(file.write(bytes), bytes)
-}
-
-/// What a write gave, but a failure where it took nothing of bytes that are some.
-fn some_of(written: io::Result<usize>, bytes: &[u8]) -> io::Result<usize>
-    requires { IfOk written (λ k. k ≤ length bytes.now) }
-    ensures { IfOk result (IsSomeOf bytes.now) }
-{
-    match written {
+    match writer.write(bytes) {
         Ok(0) if !bytes.is_empty() => Err(io::Error::from(io::ErrorKind::WriteZero)),
-        _ => written,
+        written => written,
     }
 }
 
@@ -120,6 +145,7 @@ mod tests {
     use super::*;
     use crate::whole_file::{ReadAll, read_all};
     use crate::whole_text::put_all;
+    use crate::whole_write::write_all;
     use std::fs;
     use std::test::Fail;
 
@@ -131,12 +157,11 @@ mod tests {
         let _ = fs::remove_file(&rt, name);
         let missing = read_all(alloc, &mut shelf, name, 100);
         assert_eq!(rt; missing.err(), Some(ReadAll::Fault));
-        for (made, left) in [("two", "one"), ("delay 0\n", "left 0\n")] {
-            shelf.create(name)?;
-            for text in [made, left] {
-                assert_eq!(rt; shelf.append(name, text.as_bytes())?, text.len());
-            }
+        assert_eq!(rt; shelf.append(name, b"delay 0\n"), Err(Failed));
+        for text in ["delay 0\nleft 0\nleft 0\n", "delay 0\n"] {
+            write_all(&mut shelf, name, text.as_bytes())?;
         }
+        assert_eq!(rt; shelf.append(name, b"left 0\n")?, 7);
         let mut into = [0; 4];
         for (at, piece) in [(0, "dela"), (13, "0\n"), (15, ""), (16, "")] {
             let count = shelf.read(name, at, &mut into)?;
@@ -146,17 +171,32 @@ mod tests {
         assert_eq!(rt; whole.as_slice(), b"delay 0\nleft 0\n".as_slice());
         let long = read_all(alloc, &mut shelf, name, 14);
         assert_eq!(rt; long.err(), Some(ReadAll::TooLong));
+        assert_eq!(rt; (shelf.read_faults, shelf.write_faults), (1, 1));
         let folder = read_all(alloc, &mut shelf, ".", 100);
         assert_eq!(rt; folder.err(), Some(ReadAll::Fault));
+        let placeless = write_all(&mut shelf, "shelf_io_no_folder/file", b"0");
+        assert_eq!(rt; placeless, Err(Failed));
+        assert_eq!(rt; (shelf.read_faults, shelf.write_faults), (2, 2));
         fs::remove_file(&rt, name)?;
         Ok(())
     }
 
     #[test]
     fn bytes_go_out(rt: HostRuntime) -> Result<(), Fail> {
-        let mut sink = HostSink::new(&rt);
+        let mut sink = HostSink::new(rt.stdout());
         assert_eq!(rt; sink.take(b"delay 0\n")?, 8);
         put_all(&mut sink, b"left 0\n")?;
+        assert_eq!(rt; sink.faults, 0);
+        Ok(())
+    }
+
+    #[test]
+    fn a_full_output_is_a_failure(rt: HostRuntime) -> Result<(), Fail> {
+        let mut room = [0; 10];
+        let mut sink = HostSink::new(room.as_mut_slice());
+        assert_eq!(rt; put_all(&mut sink, b"delay 0\nleft 0\n"), Err(Failed));
+        assert_eq!(rt; sink.faults, 1);
+        assert_eq!(rt; room.as_slice(), b"delay 0\nle".as_slice());
         Ok(())
     }
 }

@@ -4,7 +4,7 @@ ghost use Rattle.std.specs.Prelude.{◌≡◌, ◌-◌, ◌≤◌, ◌⊎◌, �
 ghost use Rattle.std.specs.FinMap as map;
 ghost use Rattle.shelf_io.specs.Told.{IfTold, IsSomeOf, ReadsFrom, bytes_of};
 ghost use Rattle.shelf_io.specs.FileList.{files_of};
-ghost use Rattle.shelf_io.specs.InMemory.{is_to_fail, after_call, after_failed_read, after_failed_write, after_write};
+ghost use Rattle.shelf_io.specs.InMemory.{is_to_fail, after_call, after_failed_read, after_failed_write, after_write, state_of};
 
 use crate::calls::{CallList, Calls};
 use crate::counts::counted;
@@ -67,11 +67,7 @@ impl MemoryShelf {
 }
 
 impl Shelf for MemoryShelf {
-    ghost files = { λ shelf. Some shelf.files };
-
-    ghost read_faults = { λ shelf. shelf.read_faults };
-
-    ghost write_faults = { λ shelf. shelf.write_faults };
+    ghost state = { λ shelf. state_of shelf };
 
     /// Gives as many bytes as there are and as fit, but at most `most`. Fails exactly where the call is listed
     /// or the file is not there. It takes no memory.
@@ -81,7 +77,6 @@ impl Shelf for MemoryShelf {
         ensures most { IfOk result (λ k. IfSome (bytes_of self.old.files name.now) (λ bytes. k ≡ min self.old.most (min (length into.new) (length bytes - at)))) }
         ensures bytes { IfOk result (λ k. IfTold (Some self.old.files) name.now (λ bytes. ReadsFrom bytes at k into.new)) }
         ensures after { self.new ≡ (if is_to_fail self.old.calls self.old.failing then after_failed_read self.old else after_call self.old) }
-        ensures read_faults { self.old.read_faults ≤ self.new.read_faults }
     {
         self.calls.begin(&mut self.read_faults)?;
         let bytes = self.files.get(name).ok_or(Failed)?;
@@ -93,7 +88,6 @@ impl Shelf for MemoryShelf {
         ensures listed { IsTrue (is_to_fail self.old.calls self.old.failing) → IsErr result }
         ensures ok { OnOk result (self.new ≡ after_write self.old (map.insert self.old.files name.now [])) }
         ensures err { OnErr result (self.new ≡ after_failed_write self.old) }
-        ensures write_faults { self.old.write_faults ≤ self.new.write_faults }
     {
         self.calls.begin(&mut self.write_faults)?; // a call counts whatever comes of it
         counted(self.files.make_empty(name), &mut self.write_faults)
@@ -108,7 +102,6 @@ impl Shelf for MemoryShelf {
         ensures some { IfOk result (IsSomeOf bytes.now) }
         ensures ok { IfOk result (λ k. self.new ≡ after_write self.old (map.insert self.old.files name.now (unwrap_or (bytes_of self.old.files name.now) [] ++ take k bytes.now))) }
         ensures err { OnErr result (self.new ≡ after_failed_write self.old) }
-        ensures write_faults { self.old.write_faults ≤ self.new.write_faults }
     {
         self.calls.begin(&mut self.write_faults)?;
         let count = bytes.len().min(self.most);
@@ -138,7 +131,8 @@ mod tests {
     use super::*;
     use crate::file_map::File;
     use crate::whole_file::{ReadAll, read_all};
-    use listed::{Listed, Memory, Text};
+    use crate::whole_write::write_all;
+    use listed::{Duplicate, Listed, Memory, Text};
     use std::alloc::Global;
     use std::process::Abort;
     use std::test::Fail;
@@ -182,6 +176,46 @@ mod tests {
                 Some(ReadAll::Fault),
                 "{most} bytes per call"
             );
+            assert_eq!(rt; (shelf.read_faults, shelf.write_faults), (0, 0));
+        }
+        Ok(())
+    }
+
+    #[test]
+    fn files_are_copied(rt: HostRuntime) -> Result<(), Fail> {
+        let files = report(rt.alloc())?;
+        let made = files.copy()?;
+        assert_eq!(rt; made.len(), 1);
+        for file in made.as_slice() {
+            assert_eq!(rt; file.name.as_str(), "report");
+            assert_eq!(rt; file.bytes.as_slice(), TEXT.as_bytes());
+        }
+        Ok(())
+    }
+
+    #[test]
+    fn a_file_is_written_whole_or_up_to_the_call_that_fails(rt: HostRuntime) -> Result<(), Fail> {
+        let alloc = rt.alloc();
+        let line = "left 0\n";
+        for (name, failing, text, outcome, holds) in [
+            ("new", 9, TEXT, Ok(()), Some(TEXT)),
+            ("report", 9, line, Ok(()), Some(line)),
+            ("report", 9, "", Ok(()), Some("")),
+            ("new", 1, line, Err(Failed), None),
+            ("report", 1, line, Err(Failed), Some(TEXT)),
+            ("report", 3, line, Err(Failed), Some("left")),
+        ] {
+            let mut shelf = MemoryShelf::new(
+                report(alloc)?,
+                Listed::of(vec![in alloc; failing]?),
+                4,
+            );
+            let written = write_all(&mut shelf, name, text.as_bytes());
+            assert_eq!(rt; written, outcome, "{name}: call {failing} fails");
+            let bytes = holds.map(|text| text.as_bytes());
+            assert_eq!(rt; shelf.file(name), bytes, "{name}: call {failing} fails");
+            let faults = u64::from(written.is_err());
+            assert_eq!(rt; (shelf.read_faults, shelf.write_faults), (0, faults));
         }
         Ok(())
     }
@@ -207,6 +241,7 @@ mod tests {
         assert_eq!(rt; shelf.create("report"), Ok(()), "call 8");
         assert_eq!(rt; shelf.file("report"), Some(b"".as_slice()));
         assert_eq!(rt; shelf.file("old"), None);
+        assert_eq!(rt; (shelf.read_faults, shelf.write_faults), (1, 2));
         Ok(())
     }
 }

@@ -2,7 +2,7 @@
 
 ghost use Rattle.std.specs.Prelude.{◌≡◌, ◌≤◌, [], Some, IsErr, IsTrue, IfOk, OnErr, length, min, take};
 ghost use Rattle.shelf_io.specs.Told.{IsSomeOf};
-ghost use Rattle.shelf_io.specs.InMemory.{is_to_fail, after_take, after_failed_take};
+ghost use Rattle.shelf_io.specs.InMemory.{is_to_fail, after_take, after_failed_take, sink_state_of};
 
 use crate::calls::{CallList, Calls};
 use crate::counts::counted;
@@ -63,9 +63,7 @@ impl MemorySink {
 }
 
 impl Sink for MemorySink {
-    ghost taken = { λ sink. Some sink.taken };
-
-    ghost faults = { λ sink. sink.faults };
+    ghost state = { λ sink. sink_state_of sink };
 
     /// Takes all bytes, but at most `most`. Fails where the call is listed. It may take memory, and where that is
     /// wanting it fails too.
@@ -75,7 +73,6 @@ impl Sink for MemorySink {
         ensures some { IfOk result (IsSomeOf bytes.now) }
         ensures ok { IfOk result (λ k. self.new ≡ after_take self.old (take k bytes.now)) }
         ensures err { OnErr result (self.new ≡ after_failed_take self.old) }
-        ensures faults { self.old.faults ≤ self.new.faults }
     {
         self.calls.begin(&mut self.faults)?;
         let count = bytes.len().min(self.most);
@@ -109,6 +106,7 @@ mod tests {
                 "call {failing} fails"
             );
             assert_eq!(rt; sink.bytes(), taken.as_bytes(), "call {failing} fails");
+            assert_eq!(rt; sink.faults, u64::from(put.is_err()));
         }
         Ok(())
     }

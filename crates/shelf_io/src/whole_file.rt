@@ -1,8 +1,8 @@
 //! A whole file as one piece of memory.
 
-ghost use Rattle.std.specs.Prelude.{◌≡◌, ◌+◌, ◌<◌, ◌≤◌, ◌⊎◌, length, take, IfOk, OnOk, Some};
-ghost use Rattle.shelf_io.specs.Told.{IfTold, IsMissing, Rises};
-ghost use Rattle.shelf_io.specs.Front.{IsFrontOf};
+ghost use Rattle.std.specs.Prelude.{◌≡◌, ◌+◌, ◌<◌, ◌≤◌, length, take, IfOk, IfErr, OnOk, Some};
+ghost use Rattle.shelf_io.specs.Told.{IfTold};
+ghost use Rattle.shelf_io.specs.Front.{EndsPiece, EndsReading, IsFrontOf};
 ghost use Rattle.shelf_io.specs.Messages.{message_of};
 ghost use Rattle.shelf_io.specs.declared.whole_file.ReadAll.TheVariants.{Fault, Memory};
 
@@ -64,13 +64,10 @@ pub fn read_all<F: Shelf>(
     limit: u64,
 ) -> Result<Vec<u8>, ReadAll>
     requires { limit ≤ 134217728 }
-    ensures ok { IfOk result (λ read. IfTold (F.files shelf.old) name.now (λ bytes. read.items ≡ bytes)) }
+    ensures ok { IfOk result (λ read. IfTold (F.state shelf.old).files name.now (λ bytes. read.items ≡ bytes)) }
     ensures within { IfOk result (λ read. length read.items ≤ limit) }
-    ensures too_long { result ≡ Err ReadAll.TooLong → IfTold (F.files shelf.old) name.now (λ bytes. limit < length bytes) }
-    ensures fault { result ≡ Err ReadAll.Fault → Rises (F.read_faults shelf.old) (F.read_faults shelf.new) ⊎ IsMissing (F.files shelf.old) name.now }
-    ensures files { F.files shelf.new ≡ F.files shelf.old }
-    ensures read_faults { F.read_faults shelf.old ≤ F.read_faults shelf.new }
-    ensures write_faults { F.write_faults shelf.new ≡ F.write_faults shelf.old }
+    ensures same { OnOk result (F.state shelf.new ≡ F.state shelf.old) }
+    ensures err { IfErr result (λ end. EndsReading end limit (F.state shelf.old) name.now (F.state shelf.new)) }
 {
     let mut room = zeros(alloc, PIECE)?;
     let buffer = room.as_mut_slice();
@@ -102,15 +99,12 @@ fn add_piece<F: Shelf>(
     read: &mut Vec<u8>,
 ) -> Result<usize, ReadAll>
     requires room { 0 < length buffer.old }
-    requires front { IsFrontOf (F.files shelf.old) name.now read.old.items }
+    requires front { IsFrontOf (F.state shelf.old).files name.now read.old.items }
     ensures count { IfOk result (λ k. length read.new.items ≡ length read.old.items + k) }
-    ensures front { OnOk result (IfTold (F.files shelf.old) name.now (λ bytes. read.new.items ≡ take (length read.new.items) bytes)) }
-    ensures end { result ≡ Ok 0 → IfTold (F.files shelf.old) name.now (λ bytes. read.new.items ≡ bytes) }
-    ensures not_too_long { (result ≡ Err ReadAll.TooLong) → ⊥ }
-    ensures fault { result ≡ Err ReadAll.Fault → Rises (F.read_faults shelf.old) (F.read_faults shelf.new) ⊎ IsMissing (F.files shelf.old) name.now }
-    ensures files { F.files shelf.new ≡ F.files shelf.old }
-    ensures read_faults { F.read_faults shelf.old ≤ F.read_faults shelf.new }
-    ensures write_faults { F.write_faults shelf.new ≡ F.write_faults shelf.old }
+    ensures front { OnOk result (IfTold (F.state shelf.old).files name.now (λ bytes. read.new.items ≡ take (length read.new.items) bytes)) }
+    ensures end { result ≡ Ok 0 → IfTold (F.state shelf.old).files name.now (λ bytes. read.new.items ≡ bytes) }
+    ensures same { OnOk result (F.state shelf.new ≡ F.state shelf.old) }
+    ensures err { IfErr result (λ end. EndsPiece end (F.state shelf.old) name.now (F.state shelf.new)) }
 {
     let count = shelf.read(name, read.len() as u64, buffer)?;
     read.extend_from_slice(&buffer[..count])?;

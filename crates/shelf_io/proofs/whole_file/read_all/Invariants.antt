@@ -7,10 +7,8 @@ abbrev pub invariant-pieces : goal.invariant-pieces
 invariant-pieces g l = record {
   room : 0 < length l.buffer;
   within : length l.read.items ≤ l.limit;
-  front : IsFrontOf (g.F.Shelf.files l.initial.shelf) l.name l.read.items;
-  files : g.F.Shelf.files l.shelf ≡ g.F.Shelf.files l.initial.shelf;
-  read_faults : g.F.Shelf.read_faults l.initial.shelf ≤ g.F.Shelf.read_faults l.shelf;
-  write_faults : g.F.Shelf.write_faults l.shelf ≡ g.F.Shelf.write_faults l.initial.shelf;
+  front : IsFrontOf (g.F.Shelf.state l.initial.shelf).files l.name l.read.items;
+  same : g.F.Shelf.state l.shelf ≡ g.F.Shelf.state l.initial.shelf;
 }
 
 -- each turn reads a byte at least

@@ -1,0 +1,11 @@
+use Rattle.std.proofs.Common.{refl, inr, length}
+use Rattle.shelf_io.specs.declared.watched.Call.TheVariants.{Read}
+use Rattle.shelf_io.proofs.Notes.{put_last}
+use Rattle.shelf_io.proofs.watched.WatchedShelf.read.Goals as goal
+use Rattle.shelf_io.proofs.watched.WatchedShelf.read.Goals.{in-Ok, in_default}
+
+pub returns-clause-noted : goal.returns-clause-noted
+returns-clause-noted g c = elim c.match-from_str.branch [
+  | in-Ok w ↦ rw w.self-is (put_last _ _ c.args.name.now (λ text. Read text c.args.at (length c.args.into.now)) w.in-Ok.text w.in-Ok.ensures.ok w.note.ensures)
+  | in_default w ↦ rw w.self-is (inr refl)
+]
