@@ -1,138 +1,151 @@
--- That an answer which was found and put keeps what a command promises.
-use Rattle.std.proofs.Common.{◌≡◌, ℕ, ◌⊎◌, List, [], ◌∷◌, Option, Some, None, Result, Ok, Err, IfSome, Contains, codes, refl, sym, inl, inr, arith, ap, ◌∙◌}
-use Rattle.shelf_io.specs.Told.{Rises}
-use Rattle.signal_cli.specs.Causes.{Finds, PutsReply}
-use Rattle.signal_cli.specs.Faults.{line, line_of, status_of}
-use Rattle.signal_cli.specs.Promises.{IsDone, IsRefused, KeepsAnswer, NoneFailed, status_by}
-use Rattle.signal_cli.specs.Worlds.{Cabinet, Output, OnlyReads, Puts, PutsAsFar, PutsFront}
+-- That what was found and carried out keeps what a command promises.
+use Rattle.std.proofs.Common.{◌≡◌, ℕ, ◌≤◌, ◌⊎◌, inl, inr, Bool, true, false, if◌then◌else◌, List, [], ◌∷◌, map, Option, Some, None, Result, Ok, Err, IfSome, Contains, refl, ap, sym, ◌∙◌, subst, arith}
+use Rattle.shelf_io.specs.Told.{Files, Rises, ShelfState, SinkState, StopsInText, read_failed, with_taken}
+use Rattle.shelf_io.specs.declared.file_map.File.{File}
+use Rattle.signal_cli.specs.Causes.{CarriesOut, Finds}
+use Rattle.signal_cli.specs.Faults.{line_of, outcome_status, reply_status, status_of}
+use Rattle.signal_cli.specs.Promises.{Answered, FailedToRead, FailedToWrite, KeepsReply, Refused, WantedMemory, statuses_of_commands}
+use Rattle.signal_cli.specs.Worlds.{ForFiles, ForTold, NoneFailed, PutsAsFar, StopsInFiles, Untouched, World, with_files, world}
 use Rattle.signal_cli.specs.declared.fault.Fault.{Fault}
 use Rattle.signal_cli.specs.declared.fault.Fault.TheVariants.{NetworkLong, Network, Build, PlanLong, Plan, Read, Memory}
+use Rattle.signal_cli.specs.declared.reply.Reply.{Reply}
+use Rattle.signal_cli.proofs.Unnamed.{names_of, same_writes, untouched_read, untouched_shelf, untouched_stopped, untouched_written}
 
--- what holds of what is made holds of what is deserved
-told : {X : Type 0} (deserved : Option X) (made : X) (P : X → Type 0) → IfSome deserved (λ d. d ≡ made) → P made → IfSome deserved P
-told None made P same holds = tt
-told (Some d) made P same holds = rw same holds
+-- the status of a reply is 0 or 1
+small_status : (reply : Reply) → reply_status reply ≤ 1
+small_status reply = elim reply.rejected as (λ rejected. (if rejected then 1 else 0) ≤ 1) [ true ↦ omega arith | false ↦ omega arith ]
 
--- a fact on whatever is deserved
-always : {X : Type 0} (deserved : Option X) (P : X → Type 0) → ((x : X) → P x) → IfSome deserved P
-always None P each = tt
-always (Some d) P each = each d
+status_of_reply : (reply : Reply) → Contains statuses_of_commands (reply_status reply)
+status_of_reply reply = elim reply.rejected as (λ rejected. Contains statuses_of_commands (if rejected then 1 else 0)) [ true ↦ (1, omega arith, refl) | false ↦ (0, omega arith, refl) ]
 
-module _ (deserved : Option (Result (List ℕ) Fault)) (shelf shelf' : Cabinet) (out out' : Output) (reads : OnlyReads shelf shelf') where
-  keeps-done : (text : List ℕ) (status : ℕ) → IfSome deserved (λ d. d ≡ Ok text) → status ≡ 0 → Puts out out' text → KeepsAnswer deserved shelf shelf' out out' status
-  keeps-done text status found zero put =
+-- where the writing of files stopped, the count of writes rose
+stopped_rises : (before after : ShelfState) (files : List File) → StopsInFiles before files after → Rises before.write_faults after.write_faults
+stopped_rises before after files stops =
+    elim stops.stands.stands [
+      | inl same ↦ omega (arith, ap (λ (shelf : ShelfState). shelf.write_faults) same, same_writes before stops.done)
+      | inr front ↦ omega (arith, ap (λ (shelf : ShelfState). shelf.write_faults) front, same_writes before stops.done)
+    ]
+
+module _ (Deserves : Files → Result Reply Fault → Type 0) (outputs : List (List ℕ)) (named : (files : Files) (reply : Reply) → Deserves files (Ok reply) → names_of reply.outputs ≡ outputs) (before after : World) where
+  -- the status is that of an outcome that told files deserve, or 8
+  explained : (told : Option Files) (outcome : Result Reply Fault) (status : ℕ) → ForFiles told (λ files. Deserves files outcome) → outcome_status outcome ≡ status → IfSome told (λ files. (status ≡ 8) ⊎ ((outcome : Result Reply Fault) × Deserves files outcome × (outcome_status outcome ≡ status)))
+  explained None outcome status deserved is = tt
+  explained (Some files) outcome status deserved is = inr (outcome, deserved, is)
+
+  explained_read : (told : Option Files) (status : ℕ) → ForTold told (λ files. Deserves files (Err Read)) → status ≡ 6 → IfSome told (λ files. (status ≡ 8) ⊎ ((outcome : Result Reply Fault) × Deserves files outcome × (outcome_status outcome ≡ status)))
+  explained_read None status deserved six = absurd deserved
+  explained_read (Some files) status deserved six = inr (Err Read, deserved, sym six)
+
+  explained_memory : (told : Option Files) (status : ℕ) → status ≡ 8 → IfSome told (λ files. (status ≡ 8) ⊎ ((outcome : Result Reply Fault) × Deserves files outcome × (outcome_status outcome ≡ status)))
+  explained_memory None status eight = tt
+  explained_memory (Some files) status eight = inl eight
+
+  -- a reply names the outputs
+  outputs_named : (told : Option Files) (reply : Reply) → ForFiles told (λ files. Deserves files (Ok reply)) → names_of reply.outputs ≡ outputs
+  outputs_named None reply (files, deserved) = named files reply deserved
+  outputs_named (Some files) reply deserved = named files reply deserved
+
+  keeps-answered : (status : ℕ) → Answered Deserves before after status → KeepsReply Deserves before after outputs status
+  keeps-answered status answered =
+      let small : status ≤ 1 = rw (← answered.is) (small_status answered.reply) in
       record {
-        statuses = (0, omega arith, sym zero);
-        unchanged = reads;
-        done = λ _. told deserved (Ok text) (λ answer. IsDone answer (Puts out out')) found put;
-        network_refused = λ three. absurd (omega arith);
-        plan_refused = λ four. absurd (omega arith);
+        statuses = rw (← answered.is) (status_of_reply answered.reply);
+        answered = λ _. answered;
+        refused = λ three _. absurd (omega arith);
         read_fault = λ six. absurd (omega arith);
-        read_fault_line = λ six. absurd (omega arith);
         write_fault = λ seven. absurd (omega arith);
-        write_fault_front = λ seven. absurd (omega arith);
-        memory_line = λ eight. absurd (omega arith);
-        complete = λ none. told deserved (Ok text) (λ answer. (status ≡ status_by answer) ⊎ (status ≡ 8)) found (inl zero);
+        want_of_memory = λ eight. absurd (omega arith);
+        untouched = rw (← outputs_named before.shelf.files answered.reply answered.deserved) (untouched_written before after answered.reply.outputs answered.reply.lines answered.written (inl answered.put));
+        complete = λ _. explained before.shelf.files (Ok answered.reply) status answered.deserved answered.is;
       }
 
-  keeps-front : (text : List ℕ) (status : ℕ) → IfSome deserved (λ d. d ≡ Ok text) → status ≡ 7 → PutsFront out out' text → KeepsAnswer deserved shelf shelf' out out' status
-  keeps-front text status found seven front =
+  keeps-refused : (status : ℕ) → Contains statuses_of_commands status → 3 ≤ status → status ≤ 5 → Refused Deserves before after status → KeepsReply Deserves before after outputs status
+  keeps-refused status known above below refused =
       record {
-        statuses = (4, omega arith, sym seven);
-        unchanged = reads;
-        done = λ zero. absurd (omega arith);
-        network_refused = λ three. absurd (omega arith);
-        plan_refused = λ four. absurd (omega arith);
+        statuses = known;
+        answered = λ small. absurd (omega arith);
+        refused = λ _ _. refused;
         read_fault = λ six. absurd (omega arith);
-        read_fault_line = λ six. absurd (omega arith);
-        write_fault = λ _. front.failed;
-        write_fault_front = λ _. told deserved (Ok text) (λ answer. IsDone answer (PutsFront out out')) found front;
-        memory_line = λ eight. absurd (omega arith);
-        complete = λ none. absurd (none.puts front.failed);
+        write_fault = λ seven. absurd (omega arith);
+        want_of_memory = λ eight. absurd (omega arith);
+        untouched = untouched_shelf outputs before after (line_of refused.fault) refused.unchanged refused.put;
+        complete = λ _. explained before.shelf.files (Err refused.fault) status refused.deserved refused.is;
       }
 
-  keeps-memory : (status : ℕ) → status ≡ 8 → PutsAsFar out out' (line (codes "want of memory")) → KeepsAnswer deserved shelf shelf' out out' status
-  keeps-memory status eight put =
+  keeps-read : (status : ℕ) → status ≡ 6 → FailedToRead Deserves before after → KeepsReply Deserves before after outputs status
+  keeps-read status six failed =
       record {
-        statuses = (5, omega arith, sym eight);
-        unchanged = reads;
-        done = λ zero. absurd (omega arith);
-        network_refused = λ three. absurd (omega arith);
-        plan_refused = λ four. absurd (omega arith);
+        statuses = (5, omega arith, sym six);
+        answered = λ small. absurd (omega arith);
+        refused = λ _ below. absurd (omega arith);
+        read_fault = λ _. failed;
+        write_fault = λ seven. absurd (omega arith);
+        want_of_memory = λ eight. absurd (omega arith);
+        untouched = elim failed.cause [
+          | inl counted ↦ untouched_read outputs before after (line_of Read) counted failed.put
+          | inr missing ↦ untouched_shelf outputs before after (line_of Read) missing.0 failed.put
+        ];
+        complete = λ none. elim failed.cause [
+          | inl counted ↦ absurd (none.reads (omega (arith, ap (λ (shelf : ShelfState). shelf.read_faults) counted)))
+          | inr missing ↦ explained_read before.shelf.files status missing.1 six
+        ];
+      }
+
+  keeps-stopped : (status : ℕ) → status ≡ 7 → FailedToWrite Deserves before after → KeepsReply Deserves before after outputs status
+  keeps-stopped status seven failed =
+      record {
+        statuses = (6, omega arith, sym seven);
+        answered = λ small. absurd (omega arith);
+        refused = λ _ below. absurd (omega arith);
         read_fault = λ six. absurd (omega arith);
-        read_fault_line = λ six. absurd (omega arith);
-        write_fault = λ seven. absurd (omega arith);
-        write_fault_front = λ seven. absurd (omega arith);
-        memory_line = λ _. put;
-        complete = λ none. always deserved (λ answer. (status ≡ status_by answer) ⊎ (status ≡ 8)) (λ answer. inr eight);
+        write_fault = λ _. failed;
+        want_of_memory = λ eight. absurd (omega arith);
+        untouched = rw (← outputs_named before.shelf.files failed.reply failed.deserved) (elim failed.stopped [
+          | inl files ↦ untouched_stopped before after failed.reply.outputs files.0 files.1
+          | inr lines ↦ untouched_written before after failed.reply.outputs failed.reply.lines lines.0 (inr lines.1)
+        ]);
+        complete = λ none. elim failed.stopped [
+          | inl files ↦ absurd (none.writes (stopped_rises before.shelf after.shelf failed.reply.outputs files.0))
+          | inr lines ↦ absurd (none.puts (omega (arith, ap (λ (sink : SinkState). sink.faults) lines.1.stands)))
+        ];
       }
 
-  keeps-network : (fault : Fault) (status : ℕ) → status_of fault ≡ 3 → IfSome deserved (λ d. d ≡ Err fault) → status ≡ 3 → PutsAsFar out out' (line_of fault) → KeepsAnswer deserved shelf shelf' out out' status
-  keeps-network fault status three found is put =
+  keeps-memory : (status : ℕ) → status ≡ 8 → WantedMemory Deserves before after → KeepsReply Deserves before after outputs status
+  keeps-memory status eight wanted =
       record {
-        statuses = (1, omega arith, sym is);
-        unchanged = reads;
-        done = λ zero. absurd (omega arith);
-        network_refused = λ _. told deserved (Err fault) (λ answer. IsRefused answer out out' 3) found (three, put);
-        plan_refused = λ four. absurd (omega arith);
+        statuses = (7, omega arith, sym eight);
+        answered = λ small. absurd (omega arith);
+        refused = λ _ below. absurd (omega arith);
         read_fault = λ six. absurd (omega arith);
-        read_fault_line = λ six. absurd (omega arith);
         write_fault = λ seven. absurd (omega arith);
-        write_fault_front = λ seven. absurd (omega arith);
-        memory_line = λ eight. absurd (omega arith);
-        complete = λ none. told deserved (Err fault) (λ answer. (status ≡ status_by answer) ⊎ (status ≡ 8)) found (inl (is ∙ sym three));
+        want_of_memory = λ _. wanted;
+        untouched = untouched_shelf outputs before after (line_of Memory) wanted.unchanged wanted.put;
+        complete = λ _. explained_memory before.shelf.files status eight;
       }
 
-  keeps-plan : (fault : Fault) (status : ℕ) → status_of fault ≡ 4 → IfSome deserved (λ d. d ≡ Err fault) → status ≡ 4 → PutsAsFar out out' (line_of fault) → KeepsAnswer deserved shelf shelf' out out' status
-  keeps-plan fault status four found is put =
-      record {
-        statuses = (2, omega arith, sym is);
-        unchanged = reads;
-        done = λ zero. absurd (omega arith);
-        network_refused = λ three. absurd (omega arith);
-        plan_refused = λ _. told deserved (Err fault) (λ answer. IsRefused answer out out' 4) found (four, put);
-        read_fault = λ six. absurd (omega arith);
-        read_fault_line = λ six. absurd (omega arith);
-        write_fault = λ seven. absurd (omega arith);
-        write_fault_front = λ seven. absurd (omega arith);
-        memory_line = λ eight. absurd (omega arith);
-        complete = λ none. told deserved (Err fault) (λ answer. (status ≡ status_by answer) ⊎ (status ≡ 8)) found (inl (is ∙ sym four));
-      }
+  -- a refusal, with its line or that of want of memory
+  keeps-fault : (fault : Fault) (status : ℕ) → Contains statuses_of_commands (status_of fault) → 3 ≤ status_of fault → status_of fault ≤ 5 → (middle : ShelfState) → middle ≡ before.shelf → ForFiles before.shelf.files (λ files. Deserves files (Err fault)) → ((status ≡ status_of fault) × (after.shelf ≡ middle) × PutsAsFar before.out (line_of fault) after.out) ⊎ ((status ≡ 8) × (after.shelf ≡ middle) × PutsAsFar before.out (line_of Memory) after.out) → KeepsReply Deserves before after outputs status
+  keeps-fault fault status known above below middle same deserved (inl put) =
+      keeps-refused status (rw (put.0) known) (rw put.0 above) (rw put.0 below) (record { fault = fault; deserved = deserved; is = sym put.0; unchanged = put.1 ∙ same; put = put.2 })
+  keeps-fault fault status known above below middle same deserved (inr wanting) =
+      keeps-memory status wanting.0 (record { unchanged = wanting.1 ∙ same; put = wanting.2 })
 
-  complete_after_read : (status : ℕ) → status ≡ 6 → deserved ≡ Some (Err Read) → IfSome deserved (λ answer. (status ≡ status_by answer) ⊎ (status ≡ 8))
-  complete_after_read status six missing = rw missing (inl six)
-
-  keeps-read : (status : ℕ) → Rises shelf.read_faults shelf'.read_faults ⊎ (deserved ≡ Some (Err Read)) → status ≡ 6 → PutsAsFar out out' (line (codes "read fault")) → KeepsAnswer deserved shelf shelf' out out' status
-  keeps-read status cause six put =
-      record {
-        statuses = (3, omega arith, sym six);
-        unchanged = reads;
-        done = λ zero. absurd (omega arith);
-        network_refused = λ three. absurd (omega arith);
-        plan_refused = λ four. absurd (omega arith);
-        read_fault = λ _. cause;
-        read_fault_line = λ _. put;
-        write_fault = λ seven. absurd (omega arith);
-        write_fault_front = λ seven. absurd (omega arith);
-        memory_line = λ eight. absurd (omega arith);
-        complete = λ none. elim cause [ inl rose ↦ absurd (none.reads rose) | inr missing ↦ complete_after_read status six missing ];
-      }
-
-  -- a fault that was found, with its line
-  keeps-fault : (fault : Fault) (status : ℕ) → Finds (Err fault) deserved shelf shelf' → status ≡ status_of fault → PutsAsFar out out' (line_of fault) → KeepsAnswer deserved shelf shelf' out out' status
-  unfolding line_of
-  keeps-fault NetworkLong status found is put = keeps-network NetworkLong status refl found is put
-  keeps-fault (Network fault) status found is put = keeps-network (Network fault) status refl found is put
-  keeps-fault (Build fault) status found is put = keeps-network (Build fault) status refl found is put
-  keeps-fault PlanLong status found is put = keeps-plan PlanLong status refl found is put
-  keeps-fault (Plan fault) status found is put = keeps-plan (Plan fault) status refl found is put
-  keeps-fault Read status found is put = keeps-read status found is put
-  keeps-fault Memory status found is put = keeps-memory status is put
-
-  -- whatever was found and put
-  pub keeps : (answer : Result (List ℕ) Fault) (status : ℕ) → Finds answer deserved shelf shelf' → PutsReply answer out out' status → KeepsAnswer deserved shelf shelf' out out' status
-  unfolding line_of
-  keeps (Ok text) status found (inl whole) = keeps-done text status found whole.0 whole.1
-  keeps (Ok text) status found (inr front) = keeps-front text status found front.0 front.1
-  keeps (Err fault) status found (inl put) = keeps-fault fault status found put.0 put.1
-  keeps (Err fault) status found (inr wanting) = keeps-memory status wanting.0 wanting.1
+  -- whatever was found and carried out
+  pub keeps : (found : Result Reply Fault) (middle : ShelfState) (status : ℕ) → Finds Deserves found before.shelf middle → CarriesOut found (world middle before.out) after status → KeepsReply Deserves before after outputs status
+  keeps (Ok reply) middle status found (inl whole) =
+      keeps-answered status (record { reply = reply; deserved = found.1; is = sym whole.0; written = whole.1 ∙ ap (λ shelf. with_files shelf reply.outputs) found.0; put = whole.2 })
+  keeps (Ok reply) middle status found (inr stopped) =
+      keeps-stopped status stopped.0 (record {
+        reply = reply;
+        deserved = found.1;
+        stopped = let P : ShelfState → Type 0 = λ shelf. (StopsInFiles shelf reply.outputs after.shelf × (after.out ≡ before.out)) ⊎ ((after.shelf ≡ with_files shelf reply.outputs) × StopsInText before.out reply.lines after.out) in subst P found.0 stopped.1;
+      })
+  keeps (Err Memory) middle status found (inl put) = keeps-memory status put.0 (record { unchanged = put.1 ∙ found; put = put.2 })
+  keeps (Err Memory) middle status found (inr put) = keeps-memory status put.0 (record { unchanged = put.1 ∙ found; put = put.2 })
+  keeps (Err Read) middle status (inl counted) put = keeps-read status put.0 (record { cause = inl (put.1 ∙ counted); put = put.2 })
+  keeps (Err Read) middle status (inr missing) put = keeps-read status put.0 (record { cause = inr (put.1 ∙ missing.0, missing.1); put = put.2 })
+  keeps (Err NetworkLong) middle status found carried = keeps-fault NetworkLong status (2, omega arith, refl) (omega arith) (omega arith) middle found.0 found.1 carried
+  keeps (Err (Network fault)) middle status found carried = keeps-fault (Network fault) status (2, omega arith, refl) (omega arith) (omega arith) middle found.0 found.1 carried
+  keeps (Err (Build fault)) middle status found carried = keeps-fault (Build fault) status (2, omega arith, refl) (omega arith) (omega arith) middle found.0 found.1 carried
+  keeps (Err PlanLong) middle status found carried = keeps-fault PlanLong status (3, omega arith, refl) (omega arith) (omega arith) middle found.0 found.1 carried
+  keeps (Err (Plan fault)) middle status found carried = keeps-fault (Plan fault) status (3, omega arith, refl) (omega arith) (omega arith) middle found.0 found.1 carried

@@ -1,8 +1,9 @@
--- What a command deserves where the bytes of its files are told: the text that is put, or the first fault, in the order of
--- judging (README.md, "Statuses").
-use Rattle.std.specs.Prelude.{ℕ, nat_lt, if◌then◌else◌, List, [], ◌∷◌, ◌++◌, length, Option, Some, None, Result, Ok, Err, codes}
+-- What a command deserves where the bytes of its files are told: a reply, or the first fault in the order of judging
+-- (README.md, "Statuses").
+use Rattle.std.specs.Prelude.{◌≡◌, ℕ, false, nat_lt, if◌then◌else◌, List, [], ◌∷◌, ◌++◌, length, Option, Some, None, Result, Ok, Err, codes}
 use Rattle.std.specs.Fmt.{decimal}
 use Rattle.shelf_io.specs.Told.{Files, bytes_of}
+use Rattle.ct_base.specs.declared.net.Net.{Net}
 use Rattle.ct_base.specs.declared.plan.Letter.{Letter}
 use Rattle.ct_base.specs.declared.plan.Plan.{Plan}
 use Rattle.ct_base.specs.declared.signal.Signal.{Signal}
@@ -16,9 +17,15 @@ use Rattle.cell_build.specs.declared.fault.BuildFault.{BuildFault}
 use Rattle.plan_file.specs.Spelled.{spelled_plan}
 use Rattle.plan_file.specs.declared.fault.PlanFault.{PlanFault}
 use Rattle.plan_file.specs.declared.fault.PlanFault.TheVariants.{Missing}
-use Rattle.signal_cli.specs.Commands.{Command, Replay, ReplayPlan}
+use Rattle.cell_replay.specs.Trace.{trace_of}
+use Rattle.plan_report.specs.Table.{trace_text}
+use Rattle.signal_cli.specs.Commands.{Command, Replay, Trace}
 use Rattle.signal_cli.specs.declared.fault.Fault.{Fault}
 use Rattle.signal_cli.specs.declared.fault.Fault.TheVariants.{NetworkLong, Network, Build, PlanLong, Plan as PlanRefused, Read}
+use Rattle.signal_cli.specs.declared.input.Content.{Content}
+use Rattle.signal_cli.specs.declared.input.Content.TheVariants.{TooLong, Whole}
+use Rattle.signal_cli.specs.declared.input.Planned.{Planned}
+use Rattle.signal_cli.specs.declared.reply.Reply.{Reply}
 
 infixl 10 ◌>>=◌
 -- what comes after an answer, or its fault
@@ -26,64 +33,102 @@ abbrev pub ◌>>=◌ : {X Y : Type 0} → Result X Fault → (X → Result Y Fau
 Ok x >>= next = next x
 Err fault >>= next = Err fault
 
--- the bytes of a file of at most so many
-abbrev pub bytes_by : ℕ → Fault → List ℕ → Result (List ℕ) Fault
-bytes_by limit long bytes = if nat_lt limit (length bytes) then Err long else Ok bytes
+-- what a file holds: all its bytes, or more than are allowed
+abbrev pub content_of : ℕ → List ℕ → Content
+content_of limit bytes = if nat_lt limit (length bytes) then TooLong else Whole bytes
 
-abbrev pub found : ℕ → Fault → Option (List ℕ) → Result (List ℕ) Fault
-found limit long None = Err Read
-found limit long (Some bytes) = bytes_by limit long bytes
+-- what is found of a file of at most so many bytes; it is a fault where there is none
+abbrev pub found : ℕ → Option (List ℕ) → Result Content Fault
+found limit None = Err Read
+found limit (Some bytes) = Ok (content_of limit bytes)
 
-abbrev pub bytes_in : Files → List ℕ → ℕ → Fault → Result (List ℕ) Fault
-bytes_in files name limit long = found limit long (bytes_of files name)
+-- what the named file holds
+abbrev pub content_in : Files → List ℕ → ℕ → Result Content Fault
+content_in files name limit = found limit (bytes_of files name)
 
 -- the most bytes of a network file, and of a plan file
 abbrev pub file_limit : ℕ
 file_limit = 1048576
 
--- the network that the bytes of a file spell
+-- what became of links and signals, as an answer of the program
 abbrev pub built_as : Result Named BuildFault → Result Named Fault
 built_as (Ok named) = Ok named
 built_as (Err fault) = Err (Build fault)
 
+-- what links and signals become, or the fault of the file that should spell them
 abbrev pub spelled_as : Result RawNet NetFault → Result Named Fault
 spelled_as (Ok raw) = built_as (built raw)
 spelled_as (Err fault) = Err (Network fault)
 
+-- the network that bytes spell
 unfoldable pub network : List ℕ → Result Named Fault
 network bytes = spelled_as (raw_network bytes)
 
-abbrev pub network_in : Files → List ℕ → Result Named Fault
-network_in files name = bytes_in files name file_limit NetworkLong >>= network
+-- the network that a file holds
+abbrev pub network_from : Content → Result Named Fault
+network_from TooLong = Err NetworkLong
+network_from (Whole bytes) = network bytes
 
--- the plan that the bytes of a file spell for a network
+-- the network in the named file
+abbrev pub network_in : Files → List ℕ → Result Named Fault
+network_in files name = content_in files name file_limit >>= network_from
+
+-- what became of a text, as an answer of the program
 abbrev pub planned_as : Result Plan PlanFault → Result Plan Fault
 planned_as (Ok plan) = Ok plan
 planned_as (Err fault) = Err (PlanRefused fault)
 
+-- the plan that bytes spell for a network
 unfoldable pub plan : Named → List ℕ → Result Plan Fault
 plan named bytes = planned_as (spelled_plan named bytes)
 
-abbrev pub plan_in : Files → List ℕ → Named → Result Plan Fault
-plan_in files name named = bytes_in files name file_limit PlanLong >>= plan named
+-- the plan that a file holds for a network
+abbrev pub plan_from : Named → Content → Result Plan Fault
+plan_from named TooLong = Err PlanLong
+plan_from named (Whole bytes) = plan named bytes
+
+-- the plan in the named file for a network
+abbrev pub plan_in : Named → Files → List ℕ → Result Plan Fault
+plan_in named files name = content_in files name file_limit >>= plan_from named
+
+-- a network and a plan for it, each judged as soon as its file was read
+abbrev pub planned_in : Files → List ℕ → List ℕ → Result Planned Fault
+planned_in files network plan = network_in files network >>= (λ named. plan_in named files plan >>= (λ plan. Ok (record { named = named; plan = plan })))
+
+-- lines alone
+abbrev pub printed : List ℕ → Reply
+printed lines = record { rejected = false; lines = lines; outputs = [] }
 
 -- the lines of a replay under the words of a plan: the delay, and what is left at the end
-unfoldable pub replay_lines : Named → List (List Letter) → List ℕ
-replay_lines named words =
-    codes "delay " ++ decimal (delay_of named.net.cells (letters_at words) named.net.steps) ++ codes "\nleft " ++ decimal (left_of named.net.cells (letters_at words) named.net.steps) ++ codes "\n"
+unfoldable pub replay_lines : Net → List (List Letter) → List ℕ
+replay_lines net words =
+    codes "delay " ++ decimal (delay_of net.cells (letters_at words) net.steps) ++ codes "\nleft " ++ decimal (left_of net.cells (letters_at words) net.steps) ++ codes "\n"
 
--- a network without signals needs no plan
-abbrev pub lines_without : Named → List Signal → Result (List ℕ) Fault
-lines_without named [] = Ok (replay_lines named [])
-lines_without named (signal ∷ signals) = Err (PlanRefused (Missing 0))
+-- `replay NET`: the lines of a network without signals, which needs no plan
+abbrev pub replay_alone : Net → List Signal → Result Reply Fault
+replay_alone net [] = Ok (printed (replay_lines net []))
+replay_alone net (signal ∷ signals) = Err (PlanRefused (Missing 0))
 
-abbrev pub replay_of : Files → List ℕ → Result (List ℕ) Fault
-replay_of files name = network_in files name >>= (λ named. lines_without named named.net.signals)
+-- `replay NET` and `replay NET PLAN`
+abbrev pub replay_of : Files → List ℕ → Option (List ℕ) → Result Reply Fault
+replay_of files network None = network_in files network >>= (λ named. replay_alone named.net named.net.signals)
+replay_of files network (Some plan) = planned_in files network plan >>= (λ planned. Ok (printed (replay_lines planned.named.net planned.plan.words)))
 
-abbrev pub replay_plan_of : Files → List ℕ → List ℕ → Result (List ℕ) Fault
-replay_plan_of files network plan = network_in files network >>= (λ named. plan_in files plan named >>= (λ read. Ok (replay_lines named read.words)))
+-- the table of the replay for a file, and the lines of the replay
+abbrev pub trace_reply : List ℕ → Planned → Reply
+trace_reply table planned =
+    let net = planned.named.net in
+    record {
+      rejected = false;
+      lines = replay_lines net planned.plan.words;
+      outputs = (record { name = table; bytes = trace_text planned.named.names (trace_of net.cells (letters_at planned.plan.words) net.steps) }) ∷ [];
+    }
 
--- what each command deserves
-abbrev pub deserved : Command → Files → Result (List ℕ) Fault
-deserved (Replay network) files = replay_of files network
-deserved (ReplayPlan network plan) files = replay_plan_of files network plan
+-- `trace NET PLAN OUT`
+abbrev pub trace_in : Files → List ℕ → List ℕ → List ℕ → Result Reply Fault
+trace_in files network plan table = planned_in files network plan >>= (λ planned. Ok (trace_reply table planned))
+
+-- which outcome the files deserve of a command: a reply, or the first fault in the order of judging
+abbrev pub Deserves : Command → Files → Result Reply Fault → Type 0
+Deserves (Replay network plan) files outcome = replay_of files network plan ≡ outcome
+Deserves (Trace network plan table) files outcome = trace_in files network plan table ≡ outcome

@@ -1,29 +1,42 @@
--- How what a part of a command found stands to what the told files deserve, and what is put for it.
-use Rattle.std.specs.Prelude.{◌≡◌, ℕ, ◌⊎◌, List, Option, Some, None, Result, Ok, Err, IfSome}
-use Rattle.shelf_io.specs.Told.{Rises}
+-- How what a part of a command found stands to what the files deserve, and what was done with it.
+use Rattle.std.specs.Prelude.{◌≡◌, ℕ, ◌⊎◌, List, Result, Ok, Err}
+use Rattle.shelf_io.specs.Told.{Files, ShelfState, StopsInText, read_failed, with_taken}
+use Rattle.shelf_io.specs.declared.whole_file.ReadAll.{ReadAll}
+use Rattle.shelf_io.specs.declared.whole_file.ReadAll.TheVariants as ended
 use Rattle.network_file.specs.declared.fault.NetFault.{NetFault}
 use Rattle.network_file.specs.declared.fault.NetFault.TheVariants as unread
 use Rattle.cell_build.specs.declared.fault.BuildFault.{BuildFault}
 use Rattle.cell_build.specs.declared.fault.BuildFault.TheVariants as unbuilt
 use Rattle.plan_file.specs.declared.fault.PlanFault.{PlanFault}
 use Rattle.plan_file.specs.declared.fault.PlanFault.TheVariants as unplanned
-use Rattle.signal_cli.specs.Faults.{line_of, status_of}
-use Rattle.signal_cli.specs.Worlds.{Cabinet, Output, Puts, PutsAsFar, PutsFront}
+use Rattle.signal_cli.specs.Faults.{line_of, reply_status, status_of}
+use Rattle.signal_cli.specs.Worlds.{ForFiles, ForTold, PutsAsFar, StopsInFiles, World, with_files}
 use Rattle.signal_cli.specs.declared.fault.Fault.{Fault}
 use Rattle.signal_cli.specs.declared.fault.Fault.TheVariants.{Network, Build, Plan, Read, Memory}
+use Rattle.signal_cli.specs.declared.input.Content.{Content}
+use Rattle.signal_cli.specs.declared.input.Content.TheVariants.{TooLong}
+use Rattle.signal_cli.specs.declared.reply.Reply.{Reply}
 
--- the faults of the parts as those of the program
+-- a fault of the keys of a network file as one of the program
 abbrev pub unread_of : NetFault → Fault
 unread_of unread.Memory = Memory
 unread_of fault = Network fault
 
+-- a fault of links and signals as one of the program
 abbrev pub unbuilt_of : BuildFault → Fault
 unbuilt_of unbuilt.Memory = Memory
 unbuilt_of fault = Build fault
 
+-- a fault of a plan as one of the program
 abbrev pub unplanned_of : PlanFault → Fault
 unplanned_of unplanned.Memory = Memory
 unplanned_of fault = Plan fault
+
+-- what comes of a reading that ended before the whole file was read
+abbrev pub ended_as : ReadAll → Result Content Fault
+ended_as ended.TooLong = Ok TooLong
+ended_as ended.Fault = Err Read
+ended_as ended.Memory = Err Memory
 
 -- an answer for which nothing was read is what is deserved; want of memory says nothing
 abbrev pub Gives : {X : Type 0} → Result X Fault → Result X Fault → Type 0
@@ -32,16 +45,22 @@ Gives (Err Read) deserved = ⊥
 Gives (Ok x) deserved = deserved ≡ Ok x
 Gives (Err fault) deserved = deserved ≡ Err fault
 
--- the same of what the told files deserve, where a read may have failed too
-abbrev pub Finds : {X : Type 0} → Result X Fault → Option (Result X Fault) → Cabinet → Cabinet → Type 0
-Finds (Err Memory) deserved before after = Unit {0}
-Finds (Err Read) deserved before after = Rises before.read_faults after.read_faults ⊎ (deserved ≡ Some (Err Read))
-Finds (Ok x) deserved before after = IfSome deserved (λ d. d ≡ Ok x)
-Finds (Err fault) deserved before after = IfSome deserved (λ d. d ≡ Err fault)
+-- what the part of a command found that reads: what the files deserve, and the shelf is as it was; a read that failed and was
+-- counted, or a told file that is not there; or want of memory
+abbrev pub Finds : {X : Type 0} → (Files → Result X Fault → Type 0) → Result X Fault → ShelfState → ShelfState → Type 0
+Finds Deserves (Err Memory) before after = after ≡ before
+Finds Deserves (Err Read) before after = (after ≡ read_failed before) ⊎ ((after ≡ before) × ForTold before.files (λ files. Deserves files (Err Read)))
+Finds Deserves (Ok x) before after = (after ≡ before) × ForFiles before.files (λ files. Deserves files (Ok x))
+Finds Deserves (Err fault) before after = (after ≡ before) × ForFiles before.files (λ files. Deserves files (Err fault))
 
--- what was put for an answer: its text whole with status 0 or a front of it with status 7; or the line of the fault, or of want
--- of memory, as far as puts did not fail
-abbrev pub PutsReply : Result (List ℕ) Fault → Output → Output → ℕ → Type 0
-PutsReply (Ok text) before after status = ((status ≡ 0) × Puts before after text) ⊎ ((status ≡ 7) × PutsFront before after text)
-PutsReply (Err fault) before after status =
-    ((status ≡ status_of fault) × PutsAsFar before after (line_of fault)) ⊎ ((status ≡ 8) × PutsAsFar before after (line_of Memory))
+-- what was done with what was found: the reply was written whole, or as far as writes and puts did not fail; or the line of
+-- the fault was put as far as puts did not fail, or in place of a line that takes memory that of want of memory
+abbrev pub CarriesOut : Result Reply Fault → World → World → ℕ → Type 0
+CarriesOut (Ok reply) before after status =
+    ((status ≡ reply_status reply) × (after.shelf ≡ with_files before.shelf reply.outputs) × (after.out ≡ with_taken before.out reply.lines))
+    ⊎ ((status ≡ 7) × ((StopsInFiles before.shelf reply.outputs after.shelf × (after.out ≡ before.out))
+    ⊎ ((after.shelf ≡ with_files before.shelf reply.outputs) × StopsInText before.out reply.lines after.out)))
+CarriesOut (Err Read) before after status = (status ≡ status_of Read) × (after.shelf ≡ before.shelf) × PutsAsFar before.out (line_of Read) after.out
+CarriesOut (Err fault) before after status =
+    ((status ≡ status_of fault) × (after.shelf ≡ before.shelf) × PutsAsFar before.out (line_of fault) after.out)
+    ⊎ ((status ≡ 8) × (after.shelf ≡ before.shelf) × PutsAsFar before.out (line_of Memory) after.out)

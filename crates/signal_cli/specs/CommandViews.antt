@@ -1,8 +1,10 @@
 -- A command of the program as one of the promises.
+use Rattle.std.specs.Option.{option_copied}
 use Rattle.signal_cli.specs.Commands as said
 use Rattle.signal_cli.specs.declared.command.Command.{Command}
-use Rattle.signal_cli.specs.declared.command.Command.TheVariants.{Replay, ReplayPlan}
+use Rattle.signal_cli.specs.declared.command.Command.TheVariants.{Replay, Trace}
 
+-- the command with the bytes of its names
 abbrev pub view_of : Command → said.Command
-view_of (Replay network) = said.Replay network.now
-view_of (ReplayPlan network plan) = said.ReplayPlan network.now plan.now
+view_of (Replay network plan) = said.Replay network.now (option_copied plan)
+view_of (Trace network plan table) = said.Trace network.now plan.now table.now

@@ -1,19 +1,46 @@
 -- What the words of a command line ask for (README.md, "Commands").
-use Rattle.std.specs.Prelude.{ℕ, Bool, false, true, ◌&&◌, not, if◌then◌else◌, List, [], ◌∷◌, Option, Some, None, codes}
+use Rattle.std.specs.Prelude.{ℕ, Bool, true, false, ◌&&◌, not, if◌then◌else◌, List, [], ◌∷◌, ◌++◌, Option, Some, None, codes}
+use Rattle.std.specs.List.{list_any}
 use Rattle.std.specs.Str.{bytes_eq}
 
 -- a command with the names of its files
 pub data Command : Type 0 where
-  Replay : (network : List ℕ) → Command
-  ReplayPlan : (network plan : List ℕ) → Command
+  Replay : (network : List ℕ) (plan : Option (List ℕ)) → Command
+  Trace : (network plan table : List ℕ) → Command
 
+-- the files of a command that are read, in the order of reading
+abbrev pub inputs_of : Command → List (List ℕ)
+inputs_of (Replay network None) = network ∷ []
+inputs_of (Replay network (Some plan)) = network ∷ plan ∷ []
+inputs_of (Trace network plan table) = network ∷ plan ∷ []
+
+-- the files of a command that are written, in the order of writing
+abbrev pub outputs_of : Command → List (List ℕ)
+outputs_of (Replay network plan) = []
+outputs_of (Trace network plan table) = table ∷ []
+
+-- the name has no byte
 abbrev pub is_empty : List ℕ → Bool
 is_empty [] = true
 is_empty (byte ∷ bytes) = false
 
--- `replay NET`, and `replay NET PLAN` with two names that differ, where no word is empty
+-- none of the names is empty, and no two are equal
+abbrev pub are_names : List (List ℕ) → Bool
+are_names [] = true
+are_names (name ∷ names) = not (is_empty name) && (not (list_any (bytes_eq name) names) && are_names names)
+
+-- the command whose form the words have, whatever its files are called
+abbrev pub form_of : List (List ℕ) → Option Command
+form_of (command ∷ network ∷ []) = if bytes_eq command (codes "replay") then Some (Replay network None) else None
+form_of (command ∷ network ∷ plan ∷ []) = if bytes_eq command (codes "replay") then Some (Replay network (Some plan)) else None
+form_of (command ∷ network ∷ plan ∷ table ∷ []) = if bytes_eq command (codes "trace") then Some (Trace network plan table) else None
+form_of _ = None
+
+-- a command whose files have names that differ
+abbrev pub named : Option Command → Option Command
+named None = None
+named (Some command) = if are_names (inputs_of command ++ outputs_of command) then Some command else None
+
+-- the command that the words ask for
 abbrev pub command_of : List (List ℕ) → Option Command
-command_of (command ∷ network ∷ []) = if bytes_eq command (codes "replay") && not (is_empty network) then Some (Replay network) else None
-command_of (command ∷ network ∷ plan ∷ []) =
-    if bytes_eq command (codes "replay") && (not (is_empty network) && (not (is_empty plan) && not (bytes_eq network plan))) then Some (ReplayPlan network plan) else None
-command_of _ = None
+command_of words = named (form_of words)

@@ -1,9 +1,15 @@
--- The status and the line of each fault (README.md, "Statuses").
-use Rattle.std.specs.Prelude.{ℕ, List, [], ◌∷◌, ◌++◌, codes}
-use Rattle.signal_cli.specs.FaultLines.{build_text, net_text, plan_text}
+-- The status of a reply, and the status and the line of each fault (README.md, "Statuses").
+use Rattle.std.specs.Prelude.{ℕ, if◌then◌else◌, List, [], ◌∷◌, ◌++◌, Result, Ok, Err, codes}
+use Rattle.plan_report.specs.FaultLines.{build_text, net_text, plan_text}
 use Rattle.signal_cli.specs.declared.fault.Fault.{Fault}
 use Rattle.signal_cli.specs.declared.fault.Fault.TheVariants.{NetworkLong, Network, Build, PlanLong, Plan, Read, Memory}
+use Rattle.signal_cli.specs.declared.reply.Reply.{Reply}
 
+-- 0, or 1 where a file is not accepted
+abbrev pub reply_status : Reply → ℕ
+reply_status reply = if reply.rejected then 1 else 0
+
+-- the status of a fault
 abbrev pub status_of : Fault → ℕ
 status_of NetworkLong = 3
 status_of (Network fault) = 3
@@ -13,10 +19,16 @@ status_of (Plan fault) = 4
 status_of Read = 6
 status_of Memory = 8
 
+-- the status of what a command deserves
+abbrev pub outcome_status : Result Reply Fault → ℕ
+outcome_status (Ok reply) = reply_status reply
+outcome_status (Err fault) = status_of fault
+
 -- a text as a line
 abbrev pub line : List ℕ → List ℕ
 line text = text ++ 10 ∷ []
 
+-- the line of a fault
 unfoldable pub line_of : Fault → List ℕ
 line_of NetworkLong = line (codes "network long")
 line_of (Network fault) = line (codes "network " ++ net_text fault)

@@ -1,64 +1,81 @@
 -- What a run promises for each command line (README.md, "What is proved").
-use Rattle.std.specs.Prelude.{◌≡◌, ℕ, ◌⊎◌, List, [], ◌∷◌, Option, Some, None, Result, Ok, Err, IfSome, option_map, Contains, codes}
-use Rattle.shelf_io.specs.Told.{Files, Rises}
-use Rattle.signal_cli.specs.Answers.{deserved}
-use Rattle.signal_cli.specs.Commands.{Command}
-use Rattle.signal_cli.specs.Faults.{line, line_of, status_of}
-use Rattle.signal_cli.specs.Worlds.{Cabinet, Output, OnlyReads, Puts, PutsFront, PutsAsFar}
+use Rattle.std.specs.Prelude.{◌≡◌, ℕ, ◌≤◌, ◌⊎◌, List, [], ◌∷◌, Option, Some, None, Result, Ok, Err, IfSome, Contains, codes}
+use Rattle.shelf_io.specs.Told.{Files, StopsInText, read_failed, with_taken}
+use Rattle.signal_cli.specs.Answers.{Deserves}
+use Rattle.signal_cli.specs.Commands.{Command, outputs_of}
+use Rattle.signal_cli.specs.Faults.{line, line_of, outcome_status, reply_status, status_of}
+use Rattle.signal_cli.specs.Worlds.{ForFiles, ForTold, NoneFailed, PutsAsFar, StopsInFiles, Untouched, World, with_files}
 use Rattle.signal_cli.specs.declared.fault.Fault.{Fault}
-use Rattle.signal_cli.specs.declared.fault.Fault.TheVariants.{Read}
+use Rattle.signal_cli.specs.declared.fault.Fault.TheVariants.{Read, Memory}
+use Rattle.signal_cli.specs.declared.reply.Reply.{Reply}
 
--- words of no form: status 2 and the line `words`; the files and the counts of the shelf are as they were
-pub record RefusesWords (shelf shelf' : Cabinet) (out out' : Output) (status : ℕ) : Type 0 where
+-- the statuses that a command can end with; 2 is that of words of no form
+abbrev pub statuses_of_commands : List ℕ
+statuses_of_commands = 0 ∷ 1 ∷ 3 ∷ 4 ∷ 5 ∷ 6 ∷ 7 ∷ 8 ∷ []
+
+-- words of no form: status 2 and the line `words`, and no call on the shelf
+pub record RefusesWords (before after : World) (status : ℕ) : Type 0 where
   pub answered : status ≡ 2
-  pub untouched : shelf' ≡ shelf
-  pub told : PutsAsFar out out' (line (codes "words"))
+  pub shelf : after.shelf ≡ before.shelf
+  pub put : PutsAsFar before.out (line (codes "words")) after.out
+  pub untouched : Untouched [] before after
 
--- no read and no put failed
-pub record NoneFailed (shelf shelf' : Cabinet) (out out' : Output) : Type 0 where
-  pub reads : ¬ Rises shelf.read_faults shelf'.read_faults
-  pub puts : ¬ Rises out.faults out'.faults
+-- Below, Deserves says which outcomes the files deserve: a reply, or the fault that comes first in the order of judging.
+module _ (Deserves : Files → Result Reply Fault → Type 0) (before after : World) where
+  -- a reply that the files deserve was written: all its files, and then all its lines
+  pub record Answered (status : ℕ) : Type 0 where
+    pub reply : Reply
+    pub deserved : ForFiles before.shelf.files (λ files. Deserves files (Ok reply))
+    pub is : reply_status reply ≡ status
+    pub written : after.shelf ≡ with_files before.shelf reply.outputs
+    pub put : after.out ≡ with_taken before.out reply.lines
 
--- the files deserve lines
-abbrev pub IsDone : Result (List ℕ) Fault → (List ℕ → Type 0) → Type 0
-IsDone (Ok lines) P = P lines
-IsDone (Err fault) P = ⊥
+  -- the files deserve a fault, no file changed, and the fault's line was put as far as puts did not fail
+  pub record Refused (status : ℕ) : Type 0 where
+    pub fault : Fault
+    pub deserved : ForFiles before.shelf.files (λ files. Deserves files (Err fault))
+    pub is : status_of fault ≡ status
+    pub unchanged : after.shelf ≡ before.shelf
+    pub put : PutsAsFar before.out (line_of fault) after.out
 
--- the files deserve a refusal of this status, and the line that says so was put
-abbrev pub IsRefused : Result (List ℕ) Fault → Output → Output → ℕ → Type 0
-IsRefused (Ok lines) out out' status = ⊥
-IsRefused (Err fault) out out' status = (status_of fault ≡ status) × PutsAsFar out out' (line_of fault)
+  -- a read failed and was counted, or the first told file that is wanted is not there; no file changed
+  pub record FailedToRead : Type 0 where
+    pub cause : (after.shelf ≡ read_failed before.shelf) ⊎ ((after.shelf ≡ before.shelf) × ForTold before.shelf.files (λ files. Deserves files (Err Read)))
+    pub put : PutsAsFar before.out (line_of Read) after.out
 
--- the status of what the files deserve
-abbrev pub status_by : Result (List ℕ) Fault → ℕ
-status_by (Ok lines) = 0
-status_by (Err fault) = status_of fault
+  -- a reply that the files deserve was not written whole: a write failed and was counted, and nothing was put; or all its
+  -- files stand, and a put failed and was counted
+  pub record FailedToWrite : Type 0 where
+    pub reply : Reply
+    pub deserved : ForFiles before.shelf.files (λ files. Deserves files (Ok reply))
+    pub stopped : (StopsInFiles before.shelf reply.outputs after.shelf × (after.out ≡ before.out))
+        ⊎ ((after.shelf ≡ with_files before.shelf reply.outputs) × StopsInText before.out reply.lines after.out)
 
--- a command that reads files and puts an answer: what its files deserve, where they are told; what the shelf and the sink
--- were before the run and are after it; and its status
-pub record KeepsAnswer (deserved : Option (Result (List ℕ) Fault)) (shelf shelf' : Cabinet) (out out' : Output) (status : ℕ) : Type 0 where
-  -- no other status comes
-  pub statuses : Contains (0 ∷ 3 ∷ 4 ∷ 6 ∷ 7 ∷ 8 ∷ []) status
-  -- no file changes
-  pub unchanged : OnlyReads shelf shelf'
-  -- 0: the files deserve lines, and exactly these were put
-  pub done : status ≡ 0 → IfSome deserved (λ answer. IsDone answer (Puts out out'))
-  -- 3: the network file is refused, and the line of its first refusal was put
-  pub network_refused : status ≡ 3 → IfSome deserved (λ answer. IsRefused answer out out' 3)
-  -- 4: the plan file is refused, or wanting, and the line of its first refusal was put
-  pub plan_refused : status ≡ 4 → IfSome deserved (λ answer. IsRefused answer out out' 4)
-  -- 6: a read failed, or the first file that is wanted is not there
-  pub read_fault : status ≡ 6 → Rises shelf.read_faults shelf'.read_faults ⊎ (deserved ≡ Some (Err Read))
-  pub read_fault_line : status ≡ 6 → PutsAsFar out out' (line (codes "read fault"))
-  -- 7: the files deserve lines, a put failed, and a front of them was put
-  pub write_fault : status ≡ 7 → Rises out.faults out'.faults
-  pub write_fault_front : status ≡ 7 → IfSome deserved (λ answer. IsDone answer (PutsFront out out'))
-  -- 8: memory was wanting
-  pub memory_line : status ≡ 8 → PutsAsFar out out' (line (codes "want of memory"))
-  -- where files are told and no read and no put failed, the status is the one that the files deserve, or 8
-  pub complete : NoneFailed shelf shelf' out out' → IfSome deserved (λ answer. (status ≡ status_by answer) ⊎ (status ≡ 8))
+  -- memory was wanting, no file changed, and the line that says so was put as far as puts did not fail
+  pub record WantedMemory : Type 0 where
+    pub unchanged : after.shelf ≡ before.shelf
+    pub put : PutsAsFar before.out (line_of Memory) after.out
+
+  -- what a command keeps that may write the outputs
+  pub record KeepsReply (outputs : List (List ℕ)) (status : ℕ) : Type 0 where
+    -- no other status comes
+    pub statuses : Contains statuses_of_commands status
+    -- 0 and 1
+    pub answered : status ≤ 1 → Answered status
+    -- 3 to 5
+    pub refused : 3 ≤ status → status ≤ 5 → Refused status
+    -- 6
+    pub read_fault : status ≡ 6 → FailedToRead
+    -- 7
+    pub write_fault : status ≡ 7 → FailedToWrite
+    -- 8
+    pub want_of_memory : status ≡ 8 → WantedMemory
+    -- inputs and files that the words do not name never change, and no count falls
+    pub untouched : Untouched outputs before after
+    -- where files are told and no read, write or put failed, the status is that of an outcome that they deserve, or 8
+    pub complete : NoneFailed before after → IfSome before.shelf.files (λ files. (status ≡ 8) ⊎ ((outcome : Result Reply Fault) × Deserves files outcome × (outcome_status outcome ≡ status)))
 
 -- what a run keeps, by what its words ask for
-abbrev pub Keeps : Option Command → Cabinet → Cabinet → Output → Output → ℕ → Type 0
-Keeps None shelf shelf' out out' status = RefusesWords shelf shelf' out out' status
-Keeps (Some command) shelf shelf' out out' status = KeepsAnswer (option_map (deserved command) shelf.files) shelf shelf' out out' status
+abbrev pub Keeps : Option Command → World → World → ℕ → Type 0
+Keeps None before after status = RefusesWords before after status
+Keeps (Some command) before after status = KeepsReply (Deserves command) before after (outputs_of command) status

@@ -1,51 +1,107 @@
 //! What the words of a command line ask for.
 
-ghost use Rattle.std.specs.Prelude.{◌≡◌, ◌&&◌, not, if◌then◌else◌, None, Some, option_map};
-ghost use Rattle.std.specs.Str.{bytes_eq};
+ghost use Rattle.std.specs.Prelude.{◌≡◌, [], ◌∷◌, ◌++◌, IfSome, true, option_map};
+ghost use Rattle.signal_cli.specs.Commands.{command_of, form_of, inputs_of, outputs_of};
 ghost use Rattle.signal_cli.specs.Commands as said;
-ghost use Rattle.signal_cli.specs.Commands.{command_of, is_empty};
 ghost use Rattle.signal_cli.specs.CommandViews.{view_of};
 
-use shelf_io::Words;
+use shelf_io::{Text, Words};
 
 /// A command with the names of its files.
 #[derive(Clone, Copy)]
 pub enum Command<'a> {
-    /// The delay of a network without signals, and the units that are left in it.
-    Replay { network: &'a str },
-    /// The delay of a network under a plan, and the units that are left in it.
-    ReplayPlan { network: &'a str, plan: &'a str },
+    /// The delay of a network under a plan, and the units that are left in it. One without signals needs no plan.
+    Replay {
+        network: &'a str,
+        plan: Option<&'a str>,
+    },
+    /// The table of a network's replay under a plan, written to a file.
+    Trace {
+        network: &'a str,
+        plan: &'a str,
+        table: &'a str,
+    },
 }
 
 /// The command that the words ask for, or none where they are of no form.
 pub fn parse(words: &Words) -> Option<Command<'_>>
-    ensures { option_map view_of result ≡ command_of words.now }
+    ensures value { option_map view_of result ≡ command_of words.now }
+    ensures names { IfSome result (λ command. said.are_names (inputs_of (view_of command) ++ outputs_of (view_of command)) ≡ true) }
 {
-    match words.as_slice() {
-        [command, network] if command.as_str() == "replay" => replay(network.as_str()),
-        [command, network, plan] if command.as_str() == "replay" => {
-            replay_plan(network.as_str(), plan.as_str())
-        }
+    let command = form(words.as_slice())?;
+    if has_names(&command) {
+        Some(command)
+    } else {
+        None
+    }
+}
+
+/// The command whose form the words have, whatever its files are called.
+fn form(words: &[Text]) -> Option<Command<'_>>
+    ensures { option_map view_of result ≡ form_of words.now }
+{
+    match words {
+        [command, network] if command.as_str() == "replay" => Some(Command::Replay {
+            network: network.as_str(),
+            plan: None,
+        }),
+        [command, network, plan] if command.as_str() == "replay" => Some(Command::Replay {
+            network: network.as_str(),
+            plan: Some(plan.as_str()),
+        }),
+        [command, network, plan, table] if command.as_str() == "trace" => Some(Command::Trace {
+            network: network.as_str(),
+            plan: plan.as_str(),
+            table: table.as_str(),
+        }),
         _ => None,
     }
 }
 
-/// `replay NET`.
-fn replay(network: &str) -> Option<Command<'_>>
-    ensures { option_map view_of result ≡ (if not (is_empty network.now) then Some (said.Replay network.now) else None) }
+/// Whether none of the names of a command's files is empty, and no two are equal.
+fn has_names(command: &Command<'_>) -> bool
+    ensures { result ≡ said.are_names (inputs_of (view_of command.now) ++ outputs_of (view_of command.now)) }
 {
-    if network.is_empty() {
-        return None;
+    match *command {
+        Command::Replay {
+            network,
+            plan: None,
+        } => is_name(network),
+        Command::Replay {
+            network,
+            plan: Some(plan),
+        } => are_two_names(network, plan),
+        Command::Trace {
+            network,
+            plan,
+            table,
+        } => are_three_names(network, plan, table),
     }
-    Some(Command::Replay { network })
 }
 
-/// `replay NET PLAN`.
-fn replay_plan<'a>(network: &'a str, plan: &'a str) -> Option<Command<'a>>
-    ensures { option_map view_of result ≡ (if not (is_empty network.now) && (not (is_empty plan.now) && not (bytes_eq network.now plan.now)) then Some (said.ReplayPlan network.now plan.now) else None) }
+/// Whether a name is not empty.
+fn is_name(name: &str) -> bool
+    ensures { result ≡ said.are_names (name.now ∷ []) }
 {
-    if network.is_empty() || plan.is_empty() || network == plan {
-        return None;
+    !name.is_empty()
+}
+
+/// Whether neither of two names is empty, and they differ.
+fn are_two_names(first: &str, second: &str) -> bool
+    ensures { result ≡ said.are_names (first.now ∷ second.now ∷ []) }
+{
+    if first.is_empty() || first == second {
+        return false;
     }
-    Some(Command::ReplayPlan { network, plan })
+    is_name(second)
+}
+
+/// Whether none of three names is empty, and no two are equal.
+fn are_three_names(first: &str, second: &str, third: &str) -> bool
+    ensures { result ≡ said.are_names (first.now ∷ second.now ∷ third.now ∷ []) }
+{
+    if first.is_empty() || first == second || first == third {
+        return false;
+    }
+    are_two_names(second, third)
 }

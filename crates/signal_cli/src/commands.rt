@@ -1,3 +1,31 @@
-//! One function a command.
+//! What each command answers: one function a command.
 
-pub mod replay;
+ghost use Rattle.std.specs.Prelude.{◌≡◌, ◌++◌, true};
+ghost use Rattle.signal_cli.specs.Answers.{Deserves};
+ghost use Rattle.signal_cli.specs.Causes.{Finds};
+ghost use Rattle.signal_cli.specs.Commands.{are_names, inputs_of, outputs_of};
+ghost use Rattle.signal_cli.specs.CommandViews.{view_of};
+
+mod replay;
+mod trace;
+
+use crate::command::Command;
+use crate::fault::Fault;
+use crate::reply::Reply;
+use shelf_io::Shelf;
+use std::alloc::Global;
+
+/// What the files of a command deserve. It reads them, each judged before the next is read, and writes nothing.
+pub fn answer<F: Shelf>(alloc: Global, command: Command<'_>, shelf: &mut F) -> Result<Reply, Fault>
+    requires { are_names (inputs_of (view_of command) ++ outputs_of (view_of command)) ≡ true }
+    ensures { Finds (Deserves (view_of command.entry)) result (F.state shelf.old) (F.state shelf.new) }
+{
+    match command {
+        Command::Replay { network, plan } => replay::replay(alloc, network, plan, shelf),
+        Command::Trace {
+            network,
+            plan,
+            table,
+        } => trace::trace(alloc, network, plan, table, shelf),
+    }
+}

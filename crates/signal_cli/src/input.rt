@@ -1,10 +1,10 @@
 //! What a command reads: networks and plans, each judged as soon as its bytes are there.
 
-ghost use Rattle.std.specs.Prelude.{◌≡◌, ◌⊎◌, IfOk, option_map};
+ghost use Rattle.std.specs.Prelude.{◌≡◌, ◌≤◌, false, Err, IfOk};
+ghost use Rattle.std.specs.Str.{bytes_eq};
 ghost use Rattle.traffic_model.specs.Runs.{IsAdmissiblePlan};
-ghost use Rattle.signal_cli.specs.Answers.{file_limit, bytes_in, network, network_in, plan, plan_in};
-ghost use Rattle.signal_cli.specs.Causes.{Finds, Gives};
-ghost use Rattle.signal_cli.specs.Worlds.{OnlyReads, cabinet};
+ghost use Rattle.signal_cli.specs.Answers.{content_in, network, network_from, network_in, plan, plan_from, plan_in, planned_in};
+ghost use Rattle.signal_cli.specs.Causes.{Finds, Gives, ended_as};
 ghost use Rattle.signal_cli.specs.declared.fault.Fault.TheVariants as fault;
 
 use crate::fault::Fault;
@@ -16,64 +16,103 @@ use std::alloc::Global;
 /// The most bytes of a network file, and of a plan file.
 const FILE_LIMIT: u64 = 1_048_576;
 
+/// What a file holds.
+#[derive(Debug, Drop)]
+pub enum Content {
+    /// All its bytes.
+    Whole(Listed<u8>),
+    /// More bytes than are allowed.
+    TooLong,
+}
+
+/// A network and a plan for it.
+#[derive(Debug, Drop)]
+pub struct Planned {
+    pub named: NamedNet,
+    pub plan: Plan,
+}
+
 /// The network in a file, or why there is none.
 pub fn read_network<F: Shelf>(alloc: Global, shelf: &mut F, name: &str) -> Result<NamedNet, Fault>
-    ensures found { Finds result (option_map (λ files. network_in files name.now) (F.files shelf.old))
-        (cabinet (F.files shelf.old) (F.read_faults shelf.old) (F.write_faults shelf.old))
-        (cabinet (F.files shelf.new) (F.read_faults shelf.new) (F.write_faults shelf.new)) }
-    ensures shelf { OnlyReads
-        (cabinet (F.files shelf.old) (F.read_faults shelf.old) (F.write_faults shelf.old))
-        (cabinet (F.files shelf.new) (F.read_faults shelf.new) (F.write_faults shelf.new)) }
+    ensures { Finds (λ files outcome. network_in files name.now ≡ outcome) result (F.state shelf.old) (F.state shelf.new) }
 {
-    let bytes = bytes_of(alloc, shelf, name, Fault::NetworkLong)?;
-    let named = network_of(alloc, bytes.as_slice())?;
+    let content = read_content(alloc, shelf, name, FILE_LIMIT)?;
+    let named = network_from(alloc, content)?;
     Ok(named)
 }
 
 /// The plan in a file for a network, or why there is none.
-pub fn read_plan<F: Shelf>(
+fn read_plan<F: Shelf>(
     alloc: Global,
     shelf: &mut F,
     name: &str,
     named: &NamedNet,
 ) -> Result<Plan, Fault>
-    ensures found { Finds result (option_map (λ files. plan_in files name.now named.now) (F.files shelf.old))
-        (cabinet (F.files shelf.old) (F.read_faults shelf.old) (F.write_faults shelf.old))
-        (cabinet (F.files shelf.new) (F.read_faults shelf.new) (F.write_faults shelf.new)) }
+    ensures found { Finds (λ files outcome. plan_in named.now files name.now ≡ outcome) result (F.state shelf.old) (F.state shelf.new) }
     ensures admissible { IfOk result (IsAdmissiblePlan named.now.net) }
-    ensures shelf { OnlyReads
-        (cabinet (F.files shelf.old) (F.read_faults shelf.old) (F.write_faults shelf.old))
-        (cabinet (F.files shelf.new) (F.read_faults shelf.new) (F.write_faults shelf.new)) }
 {
-    let bytes = bytes_of(alloc, shelf, name, Fault::PlanLong)?;
-    let plan = plan_of(alloc, named, bytes.as_slice())?;
+    let content = read_content(alloc, shelf, name, FILE_LIMIT)?;
+    let plan = plan_from(alloc, named, content)?;
     Ok(plan)
 }
 
-/// The bytes of a file of at most 1,048,576 bytes, or the fault that it is longer.
-fn bytes_of<F: Shelf>(
+/// The network in a file and the plan for it in another one, or the first fault. The plan is not read where the network is
+/// refused.
+pub fn read_planned<F: Shelf>(
+    alloc: Global,
+    shelf: &mut F,
+    network: &str,
+    plan: &str,
+) -> Result<Planned, Fault>
+    requires { bytes_eq network.now plan.now ≡ false }
+    ensures found { Finds (λ files outcome. planned_in files network.now plan.now ≡ outcome) result (F.state shelf.old) (F.state shelf.new) }
+    ensures admissible { IfOk result (λ planned. IsAdmissiblePlan planned.named.net planned.plan) }
+{
+    let named = read_network(alloc, shelf, network)?;
+    let plan = read_plan(alloc, shelf, plan, &named)?;
+    Ok(Planned { named, plan })
+}
+
+/// What a file holds of which at most so many bytes are wanted.
+fn read_content<F: Shelf>(
     alloc: Global,
     shelf: &mut F,
     name: &str,
-    long: Fault,
-) -> Result<Listed<u8>, Fault>
-    requires { (long ≡ fault.NetworkLong) ⊎ (long ≡ fault.PlanLong) }
-    ensures found { Finds result (option_map (λ files. bytes_in files name.now file_limit long) (F.files shelf.old))
-        (cabinet (F.files shelf.old) (F.read_faults shelf.old) (F.write_faults shelf.old))
-        (cabinet (F.files shelf.new) (F.read_faults shelf.new) (F.write_faults shelf.new)) }
-    ensures shelf { OnlyReads
-        (cabinet (F.files shelf.old) (F.read_faults shelf.old) (F.write_faults shelf.old))
-        (cabinet (F.files shelf.new) (F.read_faults shelf.new) (F.write_faults shelf.new)) }
+    limit: u64,
+) -> Result<Content, Fault>
+    requires { limit ≤ 134217728 }
+    ensures { Finds (λ files outcome. content_in files name.now limit ≡ outcome) result (F.state shelf.old) (F.state shelf.new) }
 {
-    match read_all(alloc, shelf, name, FILE_LIMIT) {
-        Ok(bytes) => Ok(Listed::of(bytes)),
-        Err(ReadAll::Fault) => Err(Fault::Read),
-        Err(ReadAll::TooLong) => Err(long),
-        Err(ReadAll::Memory) => Err(Fault::Memory),
+    match read_all(alloc, shelf, name, limit) {
+        Ok(bytes) => Ok(Content::Whole(Listed::of(bytes))),
+        Err(end) => ended(end),
     }
 }
 
-/// The network that the bytes of a file spell.
+/// What comes of a reading that ended before the whole file was read.
+fn ended(end: ReadAll) -> Result<Content, Fault>
+    ensures { result ≡ ended_as end }
+{
+    match end {
+        ReadAll::TooLong => Ok(Content::TooLong),
+        ReadAll::Fault => Err(Fault::Read),
+        ReadAll::Memory => Err(Fault::Memory),
+    }
+}
+
+/// The network that a file holds.
+#[tactic(auto, unfolding(crate::specs::Answers::network))]
+fn network_from(alloc: Global, content: Content) -> Result<NamedNet, Fault>
+    ensures value { Gives result (network_from content) }
+    ensures long { content ≡ Content.TooLong → result ≡ Err fault.NetworkLong }
+{
+    match content {
+        Content::Whole(bytes) => network_of(alloc, bytes.as_slice()),
+        Content::TooLong => Err(Fault::NetworkLong),
+    }
+}
+
+/// The network that bytes spell.
 #[tactic(auto, unfolding(crate::specs::Answers::network))]
 fn network_of(alloc: Global, bytes: &[u8]) -> Result<NamedNet, Fault>
     ensures { Gives result (network bytes.now) }
@@ -83,7 +122,19 @@ fn network_of(alloc: Global, bytes: &[u8]) -> Result<NamedNet, Fault>
     Ok(named)
 }
 
-/// The plan that the bytes of a file spell for a network.
+/// The plan that a file holds for a network.
+fn plan_from(alloc: Global, named: &NamedNet, content: Content) -> Result<Plan, Fault>
+    ensures value { Gives result (plan_from named.now content) }
+    ensures long { content ≡ Content.TooLong → result ≡ Err fault.PlanLong }
+    ensures admissible { IfOk result (IsAdmissiblePlan named.now.net) }
+{
+    match content {
+        Content::Whole(bytes) => plan_of(alloc, named, bytes.as_slice()),
+        Content::TooLong => Err(Fault::PlanLong),
+    }
+}
+
+/// The plan that bytes spell for a network.
 #[tactic(auto, unfolding(crate::specs::Answers::plan))]
 fn plan_of(alloc: Global, named: &NamedNet, bytes: &[u8]) -> Result<Plan, Fault>
     ensures value { Gives result (plan named.now bytes.now) }

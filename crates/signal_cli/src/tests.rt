@@ -4,4 +4,5 @@ mod calls;
 mod examples;
 mod networks;
 mod plans;
+mod traces;
 mod world;

@@ -1,109 +1,104 @@
 //! `replay NET` and `replay NET PLAN`: the delay of a network under a plan, and the units that are left in it.
 
-ghost use Rattle.std.specs.Prelude.{Ok, option_map};
+ghost use Rattle.std.specs.Prelude.{◌≡◌, ◌<◌, false, length, None, Some, Ok, Err, IfSome};
+ghost use Rattle.std.specs.Option.{option_copied};
+ghost use Rattle.std.specs.Str.{bytes_eq};
+ghost use Rattle.ct_base.specs.Validity.{IsValid};
 ghost use Rattle.traffic_model.specs.Runs.{HasWords};
-ghost use Rattle.signal_cli.specs.Answers.{lines_without, replay_lines, replay_of, replay_plan_of};
+ghost use Rattle.signal_cli.specs.Answers as said;
+ghost use Rattle.signal_cli.specs.Answers.{printed, replay_lines, replay_of};
+ghost use Rattle.plan_file.specs.declared.fault.PlanFault.TheVariants.{Missing};
 ghost use Rattle.signal_cli.specs.Causes.{Finds, Gives};
-ghost use Rattle.signal_cli.specs.Promises.{KeepsAnswer};
-ghost use Rattle.signal_cli.specs.Worlds.{OnlyReads, cabinet, output};
+ghost use Rattle.signal_cli.specs.declared.fault.Fault.TheVariants as fault;
 
 use crate::fault::Fault;
-use crate::input::{read_network, read_plan};
-use crate::output::put_answer;
+use crate::input::{read_network, read_planned};
+use crate::reply::Reply;
 use cell_build::NamedNet;
 use cell_replay::totals;
-use ct_base::{Listed, Plan, Text};
+use ct_base::{Listed, Net, Plan, Text};
 use plan_file::PlanFault;
-use shelf_io::{Shelf, Sink};
+use shelf_io::Shelf;
 use std::alloc::Global;
 
-/// Reads a network without signals and puts its delay and what is left, or the line of the first fault.
-pub fn replay<F: Shelf, K: Sink>(alloc: Global, network: &str, shelf: &mut F, out: &mut K) -> u8
-    ensures { KeepsAnswer (option_map (λ files. replay_of files network.now) (F.files shelf.old))
-        (cabinet (F.files shelf.old) (F.read_faults shelf.old) (F.write_faults shelf.old))
-        (cabinet (F.files shelf.new) (F.read_faults shelf.new) (F.write_faults shelf.new))
-        (output (K.taken out.old) (K.faults out.old))
-        (output (K.taken out.new) (K.faults out.new))
-        result }
+/// The delay and what is left of a network, under a plan where one is named.
+pub fn replay<F: Shelf>(
+    alloc: Global,
+    network: &str,
+    plan: Option<&str>,
+    shelf: &mut F,
+) -> Result<Reply, Fault>
+    requires { IfSome plan (λ plan. bytes_eq network.now plan.now ≡ false) }
+    ensures { Finds (λ files outcome. replay_of files network.now (option_copied plan.entry) ≡ outcome) result (F.state shelf.old) (F.state shelf.new) }
 {
-    let answer = answer_alone(alloc, network, shelf);
-    put_answer(alloc, out, answer)
+    match plan {
+        Some(plan) => replay_under(alloc, network, plan, shelf),
+        None => replay_alone(alloc, network, shelf),
+    }
 }
 
-/// Reads a network and a plan and puts the delay and what is left, or the line of the first fault.
-pub fn replay_plan<F: Shelf, K: Sink>(
+/// The reply for a network under a plan.
+fn replay_under<F: Shelf>(
     alloc: Global,
     network: &str,
     plan: &str,
     shelf: &mut F,
-    out: &mut K,
-) -> u8
-    ensures { KeepsAnswer (option_map (λ files. replay_plan_of files network.now plan.now) (F.files shelf.old))
-        (cabinet (F.files shelf.old) (F.read_faults shelf.old) (F.write_faults shelf.old))
-        (cabinet (F.files shelf.new) (F.read_faults shelf.new) (F.write_faults shelf.new))
-        (output (K.taken out.old) (K.faults out.old))
-        (output (K.taken out.new) (K.faults out.new))
-        result }
+) -> Result<Reply, Fault>
+    requires { bytes_eq network.now plan.now ≡ false }
+    ensures { Finds (λ files outcome. replay_of files network.now (Some plan.now) ≡ outcome) result (F.state shelf.old) (F.state shelf.new) }
 {
-    let answer = answer_under_plan(alloc, network, plan, shelf);
-    put_answer(alloc, out, answer)
+    let planned = read_planned(alloc, shelf, network, plan)?;
+    let reply = reply_under(alloc, planned.named.net(), &planned.plan)?;
+    Ok(reply)
 }
 
-/// The lines of a replay without a plan.
-fn answer_alone<F: Shelf>(alloc: Global, network: &str, shelf: &mut F) -> Result<Text, Fault>
-    ensures found { Finds result (option_map (λ files. replay_of files network.now) (F.files shelf.old))
-        (cabinet (F.files shelf.old) (F.read_faults shelf.old) (F.write_faults shelf.old))
-        (cabinet (F.files shelf.new) (F.read_faults shelf.new) (F.write_faults shelf.new)) }
-    ensures shelf { OnlyReads
-        (cabinet (F.files shelf.old) (F.read_faults shelf.old) (F.write_faults shelf.old))
-        (cabinet (F.files shelf.new) (F.read_faults shelf.new) (F.write_faults shelf.new)) }
+/// The reply for a network without a plan.
+fn replay_alone<F: Shelf>(alloc: Global, network: &str, shelf: &mut F) -> Result<Reply, Fault>
+    ensures { Finds (λ files outcome. replay_of files network.now None ≡ outcome) result (F.state shelf.old) (F.state shelf.new) }
 {
     let named = read_network(alloc, shelf, network)?;
-    let lines = lines_without(alloc, &named)?;
-    Ok(lines)
+    let reply = reply_alone(alloc, &named)?;
+    Ok(reply)
 }
 
-/// The lines of a replay under a plan.
-fn answer_under_plan<F: Shelf>(
-    alloc: Global,
-    network: &str,
-    plan: &str,
-    shelf: &mut F,
-) -> Result<Text, Fault>
-    ensures found { Finds result (option_map (λ files. replay_plan_of files network.now plan.now) (F.files shelf.old))
-        (cabinet (F.files shelf.old) (F.read_faults shelf.old) (F.write_faults shelf.old))
-        (cabinet (F.files shelf.new) (F.read_faults shelf.new) (F.write_faults shelf.new)) }
-    ensures shelf { OnlyReads
-        (cabinet (F.files shelf.old) (F.read_faults shelf.old) (F.write_faults shelf.old))
-        (cabinet (F.files shelf.new) (F.read_faults shelf.new) (F.write_faults shelf.new)) }
+/// What a network deserves without a plan: its lines, or where it has signals that a plan is wanting.
+fn reply_alone(alloc: Global, named: &NamedNet) -> Result<Reply, Fault>
+    ensures value { Gives result (said.replay_alone named.now.net named.now.net.signals) }
+    ensures wanting { 0 < length named.now.net.signals → result ≡ Err (fault.Plan (Missing 0)) }
 {
-    let named = read_network(alloc, shelf, network)?;
-    let plan = read_plan(alloc, shelf, plan, &named)?;
-    let lines = lines_of(alloc, &named, &plan)?;
-    Ok(lines)
-}
-
-/// The lines of a network without signals; one with signals wants a plan.
-fn lines_without(alloc: Global, named: &NamedNet) -> Result<Text, Fault>
-    ensures { Gives result (lines_without named.now named.now.net.signals) }
-{
-    if named.net().signals.len() > 0 {
+    let net = named.net();
+    if net.signals.len() > 0 {
         return Err(Fault::Plan(PlanFault::Missing(0)));
     }
     let plan = Plan {
         words: Listed::new(alloc),
     };
-    let lines = lines_of(alloc, named, &plan)?;
-    Ok(lines)
+    let reply = reply_under(alloc, net, &plan)?;
+    Ok(reply)
+}
+
+/// What a network under a plan deserves.
+fn reply_under(alloc: Global, net: &Net, plan: &Plan) -> Result<Reply, Fault>
+    requires valid { IsValid net.now }
+    requires words { HasWords net.now plan.now }
+    ensures { Gives result (Ok (printed (replay_lines net.now plan.now.words))) }
+{
+    let lines = lines_of(alloc, net, plan)?;
+    Ok(Reply {
+        rejected: false,
+        lines,
+        outputs: Listed::new(alloc),
+    })
 }
 
 /// The delay of a network under a plan and what is left in it, as two lines.
 #[tactic(auto, unfolding(crate::specs::Answers::replay_lines))]
-fn lines_of(alloc: Global, named: &NamedNet, plan: &Plan) -> Result<Text, Fault>
-    requires { HasWords named.now.net plan.now }
-    ensures { Gives result (Ok (replay_lines named.now plan.now.words)) }
+pub fn lines_of(alloc: Global, net: &Net, plan: &Plan) -> Result<Text, Fault>
+    requires valid { IsValid net.now }
+    requires words { HasWords net.now plan.now }
+    ensures { Gives result (Ok (replay_lines net.now plan.now.words)) }
 {
-    let totals = totals(alloc, named.net(), plan)?;
+    let totals = totals(alloc, net, plan)?;
     let delay = totals.delay;
     let left = totals.left;
     Ok(Text::of(format!(in alloc; "delay {delay}\nleft {left}\n")?))

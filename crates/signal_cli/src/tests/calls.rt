@@ -27,7 +27,8 @@ const RUNS: &[(&[&str], u8, &str)] = &[
     (&["replay", "link", "link"], 2, "words\n"),
     (&["replay", "nothing", "nothing"], 2, "words\n"),
     (&["replay", "crossing", "plan", "link"], 2, "words\n"),
-    (&["trace", "crossing", "plan", "out"], 2, "words\n"),
+    (&["trace", "crossing", "plan"], 2, "words\n"),
+    (&["trace", "crossing", "plan", "out", "more"], 2, "words\n"),
     (&["program", "crossing", "out"], 2, "words\n"),
     (&["check", "crossing", "plan"], 2, "words\n"),
     (&["solve", "crossing", "1", "out", "proof"], 2, "words\n"),
@@ -88,10 +89,10 @@ fn words_and_files(rt: HostRuntime) -> Result<(), Fail> {
 
 #[test]
 fn calls_that_fail(rt: HostRuntime) -> Result<(), Fail> {
-    for (words, failing_reads, failing_puts, most, status, put) in FAILING {
+    for (words, failing, failing_puts, most, status, put) in FAILING {
         let calls = Calls {
-            failing_reads,
-            most_read: *most,
+            failing,
+            most: *most,
             failing_puts,
             most_put: *most,
         };

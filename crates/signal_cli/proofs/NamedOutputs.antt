@@ -1,0 +1,35 @@
+-- A reply that a command deserves writes the outputs of the command, and no other files.
+use Rattle.std.proofs.Common.{◌≡◌, ℕ, List, [], ◌∷◌, Option, Some, None, Result, Ok, Err, refl, ap, sym}
+use Rattle.shelf_io.specs.Told.{Files}
+use Rattle.ct_base.specs.declared.net.Net.{Net}
+use Rattle.ct_base.specs.declared.signal.Signal.{Signal}
+use Rattle.cell_build.specs.Naming.{Named}
+use Rattle.signal_cli.specs.Answers.{◌>>=◌, Deserves, network_in, planned_in, printed, replay_alone, replay_lines, trace_reply}
+use Rattle.signal_cli.specs.Commands.{Command, Replay, Trace, outputs_of}
+use Rattle.signal_cli.specs.declared.fault.Fault.{Fault}
+use Rattle.signal_cli.specs.declared.input.Planned.{Planned}
+use Rattle.signal_cli.specs.declared.reply.Reply.{Reply}
+use Rattle.signal_cli.proofs.Unnamed.{names_of}
+
+-- a reply at the end of a chain
+at_the_end : {X : Type 0} (found : Result X Fault) (next : X → Result Reply Fault) (names : List (List ℕ)) → ((x : X) (reply : Reply) → next x ≡ Ok reply → names_of reply.outputs ≡ names) → (reply : Reply) → (found >>= next) ≡ Ok reply → names_of reply.outputs ≡ names
+at_the_end (Ok x) next names each reply is = each x reply is
+at_the_end (Err fault) next names each reply is = absurd (cc)
+
+-- a reply that is known
+known_reply : (known reply : Reply) → (let found : Result Reply Fault = Ok known in found ≡ Ok reply) → names_of reply.outputs ≡ names_of known.outputs
+known_reply known reply is =
+    let same : known ≡ reply = cc in
+    ap (λ (reply : Reply). names_of reply.outputs) (sym same)
+
+alone : (net : Net) (signals : List Signal) (reply : Reply) → replay_alone net signals ≡ Ok reply → names_of reply.outputs ≡ []
+alone net [] reply is = known_reply (printed (replay_lines net [])) reply is
+alone net (signal ∷ signals) reply is = absurd (cc)
+
+pub outputs_are_named : (command : Command) (files : Files) (reply : Reply) → Deserves command files (Ok reply) → names_of reply.outputs ≡ outputs_of command
+outputs_are_named (Replay network None) files reply is =
+    at_the_end (network_in files network) (λ (named : Named). replay_alone named.net named.net.signals) [] (λ named reply is. alone named.net named.net.signals reply is) reply is
+outputs_are_named (Replay network (Some plan)) files reply is =
+    at_the_end (planned_in files network plan) (λ (planned : Planned). Ok (printed (replay_lines planned.named.net planned.plan.words))) [] (λ planned reply is. known_reply (printed (replay_lines planned.named.net planned.plan.words)) reply is) reply is
+outputs_are_named (Trace network plan table) files reply is =
+    at_the_end (planned_in files network plan) (λ (planned : Planned). Ok (trace_reply table planned)) (table ∷ []) (λ planned reply is. known_reply (trace_reply table planned) reply is) reply is

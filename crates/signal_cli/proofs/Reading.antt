@@ -1,0 +1,168 @@
+-- What a part of a command found by reading, as what the files deserve.
+use Rattle.std.proofs.Common.{◌≡◌, ℕ, ◌≤◌, ◌<◌, ◌+◌, ◌⊎◌, inl, inr, subst, Bool, true, false, cond, if◌then◌else◌, nat_lt, List, [], ◌∷◌, length, replicate, Option, Some, None, MatchOption, Result, Ok, Err, refl, ap, sym, ◌∙◌, arith}
+use Rattle.std.proofs.lemmas.Bool.Decides.{nat_tests}
+use Rattle.std.proofs.lemmas.List.{length-replicate}
+use Rattle.std.proofs.lemmas.Slice.Eq.{bytes_eq-Decides}
+use Rattle.std.specs.FinMap as map
+use Rattle.std.specs.Str.{bytes_eq}
+use Rattle.ct_base.specs.declared.plan.Plan.{Plan}
+use Rattle.cell_build.specs.Naming.{Named}
+use Rattle.shelf_io.specs.Told.{Files, IfTold, IsMissing, FailsToRead, ShelfState, bytes_of, read_failed}
+use Rattle.shelf_io.proofs.Growing.{get_same}
+use Rattle.shelf_io.proofs.NamedFiles.{get_inserted}
+use Rattle.signal_cli.specs.Answers.{◌>>=◌, content_in, content_of, file_limit, found, network_from, network_in, plan_from, plan_in, planned_in}
+use Rattle.shelf_io.specs.Front.{EndsReading}
+use Rattle.shelf_io.specs.declared.whole_file.ReadAll.{ReadAll}
+use Rattle.shelf_io.specs.declared.whole_file.ReadAll.TheVariants as ended
+use Rattle.signal_cli.specs.Causes.{Finds, Gives, ended_as}
+use Rattle.signal_cli.specs.Worlds.{ForFiles, ForTold}
+use Rattle.signal_cli.specs.declared.fault.Fault.{Fault}
+use Rattle.signal_cli.specs.declared.fault.Fault.TheVariants.{NetworkLong, Network, Build, PlanLong, Plan as PlanRefused, Read, Memory}
+use Rattle.signal_cli.specs.declared.input.Content.{Content}
+use Rattle.signal_cli.specs.declared.input.Content.TheVariants.{TooLong, Whole}
+use Rattle.signal_cli.specs.declared.input.Planned.{Planned}
+
+-- what holds of the files holds of them in other words
+pub for_files : (told : Option Files) (P Q : Files → Type 0) → ((files : Files) → P files → Q files) → ForFiles told P → ForFiles told Q
+for_files None P Q each (files, holds) = (files, each files holds)
+for_files (Some files) P Q each holds = each files holds
+
+pub for_told : (told : Option Files) (P Q : Files → Type 0) → ((files : Files) → P files → Q files) → ForTold told P → ForTold told Q
+for_told None P Q each holds = holds
+for_told (Some files) P Q each holds = each files holds
+
+-- a file within the limit is seen whole, and a longer one is too long
+is_whole : (limit : ℕ) (bytes : List ℕ) → length bytes ≤ limit → content_of limit bytes ≡ Whole bytes
+is_whole limit bytes short =
+    let test : nat_lt limit (length bytes) ≡ false = grind (arith, nat_tests) in
+    ap (λ long. if long then TooLong else Whole bytes) test
+
+is_too_long : (limit : ℕ) (bytes : List ℕ) → limit < length bytes → content_of limit bytes ≡ TooLong
+is_too_long limit bytes long =
+    let test : nat_lt limit (length bytes) ≡ true = grind (arith, nat_tests) in
+    ap (λ long. if long then TooLong else Whole bytes) test
+
+-- what a told file holds, or some file where files are not told
+content_seen : (told : Option Files) (name bytes : List ℕ) (limit : ℕ) (content : Content) → content_of limit bytes ≡ content → IfTold told name (λ known. content_of limit known ≡ content) → ForFiles told (λ files. content_in files name limit ≡ Ok content)
+content_seen None name bytes limit content seen known =
+    (map.insert map.empty name bytes, ap (found limit) (get_same map.empty name bytes) ∙ ap Ok seen)
+content_seen (Some files) name bytes limit content seen known =
+    elim (bytes_of files name) as (λ there. MatchOption there ⊥ (λ known. content_of limit known ≡ content) → found limit there ≡ Ok content) [
+      | None ↦ λ none. absurd none
+      | Some bytes ↦ λ known. ap Ok known
+    ] known
+
+-- a change of what is known of a told file
+if_told : (told : Option Files) (name : List ℕ) (P Q : List ℕ → Type 0) → ((bytes : List ℕ) → P bytes → Q bytes) → IfTold told name P → IfTold told name Q
+if_told None name P Q each known = tt
+if_told (Some files) name P Q each known =
+    elim (bytes_of files name) as (λ there. MatchOption there ⊥ P → MatchOption there ⊥ Q) [
+      | None ↦ λ none. none
+      | Some bytes ↦ λ known. each bytes known
+    ] known
+
+pub whole_seen : (told : Option Files) (name bytes : List ℕ) (limit : ℕ) → length bytes ≤ limit → IfTold told name (λ known. bytes ≡ known) → ForFiles told (λ files. content_in files name limit ≡ Ok (Whole bytes))
+whole_seen told name bytes limit short known =
+    let P : List ℕ → Type 0 = λ known. bytes ≡ known in
+    let Q : List ℕ → Type 0 = λ known. content_of limit known ≡ Whole bytes in
+    content_seen told name bytes limit (Whole bytes) (is_whole limit bytes short) (if_told told name P Q (λ known same. ap (content_of limit) (sym same) ∙ is_whole limit bytes short) known)
+
+too_long_seen : (told : Option Files) (name : List ℕ) (limit : ℕ) → IfTold told name (λ known. limit < length known) → ForFiles told (λ files. content_in files name limit ≡ Ok TooLong)
+too_long_seen told name limit known =
+    let P : List ℕ → Type 0 = λ known. limit < length known in
+    let Q : List ℕ → Type 0 = λ known. content_of limit known ≡ TooLong in
+    let bytes : List ℕ = replicate (limit + 1) 0 in
+    let long : limit < length bytes = omega (arith, length-replicate {A = ℕ} (limit + 1) 0) in
+    content_seen told name bytes limit TooLong (is_too_long limit bytes long) (if_told told name P Q (λ known. is_too_long limit known) known)
+
+-- a file that could not be read
+read_fault_found : (before after : ShelfState) (name : List ℕ) (limit : ℕ) → FailsToRead before name after → Finds (λ files outcome. content_in files name limit ≡ outcome) (Err Read) before after
+read_fault_found before after name limit (inl counted) = inl counted
+read_fault_found before after name limit (inr missing) = inr (missing.1, not_there before.files missing.0)
+  where
+    not_there : (told : Option Files) → IsMissing told name → ForTold told (λ files. content_in files name limit ≡ Err Read)
+    not_there None none = none
+    not_there (Some files) none = ap (found limit) none
+
+-- a reading that ended before the whole file was read
+pub ended_found : (end : ReadAll) (before after : ShelfState) (name : List ℕ) (limit : ℕ) → EndsReading end limit before name after → Finds (λ files outcome. content_in files name limit ≡ outcome) (ended_as end) before after
+ended_found ended.TooLong before after name limit long = (long.0, too_long_seen before.files name limit long.1)
+ended_found ended.Fault before after name limit failed = read_fault_found before after name limit failed
+ended_found ended.Memory before after name limit same = same
+
+-- What follows from what was read, without a further read.
+pub found_then : {X Y : Type 0} (g : Files → Result X Fault) (next : X → Result Y Fault) (x : X) (made : Result Y Fault) (before after : ShelfState) → Finds (λ files outcome. g files ≡ outcome) (Ok x) before after → Gives made (next x) → Finds (λ files outcome. (g files >>= next) ≡ outcome) made before after
+found_then g next x (Err Memory) before after read given = read.0
+found_then g next x (Err Read) before after read given = absurd given
+found_then g next x (Ok y) before after read given =
+    (read.0, for_files before.files (λ files. g files ≡ Ok x) (λ files. (g files >>= next) ≡ Ok y) (λ files seen. ap (λ r. r >>= next) seen ∙ given) read.1)
+found_then g next x (Err fault) before after read given =
+    (read.0, for_files before.files (λ files. g files ≡ Ok x) (λ files. (g files >>= next) ≡ Err fault) (λ files seen. ap (λ r. r >>= next) seen ∙ given) read.1)
+
+-- a fault ends a chain
+pub found_fault : {X Y : Type 0} (g : Files → Result X Fault) (next : X → Result Y Fault) (fault : Fault) (before after : ShelfState) → Finds (λ files outcome. g files ≡ outcome) (Err fault) before after → Finds (λ files outcome. (g files >>= next) ≡ outcome) (Err fault) before after
+found_fault g next Memory before after read = read
+found_fault g next Read before after (inl counted) = inl counted
+found_fault g next Read before after (inr missing) =
+    inr (missing.0, for_told before.files (λ files. g files ≡ Err Read) (λ files. (g files >>= next) ≡ Err Read) (λ files seen. ap (λ r. r >>= next) seen) missing.1)
+found_fault g next fault before after read =
+    (read.0, for_files before.files (λ files. g files ≡ Err fault) (λ files. (g files >>= next) ≡ Err fault) (λ files seen. ap (λ r. r >>= next) seen) read.1)
+
+-- Two files.
+
+-- names that differ do so either way round
+differ_too : (a b : List ℕ) → bytes_eq a b ≡ false → bytes_eq b a ≡ false
+differ_too a b differ = by_test (bytes_eq b a) refl
+  where
+    by_test : (test : Bool) → bytes_eq b a ≡ test → bytes_eq b a ≡ false
+    by_test false is = is
+    by_test true is =
+        let same : bytes_eq a b ≡ true = (bytes_eq-Decides a b).1 (sym ((bytes_eq-Decides b a).0 is)) in
+        cc
+
+-- the network of one file and the plan of another, where files are not told: some files hold both
+joined : (network plan : List ℕ) → bytes_eq plan network ≡ false → (named : Named) (outcome : Result Plan Fault) (seen : Option (List ℕ)) → (found file_limit seen >>= network_from) ≡ Ok named → (files : Files) → plan_in named files plan ≡ outcome → (files : Files) × (planned_in files network plan ≡ (outcome >>= (λ (plan : Plan). Ok (record { named = named; plan = plan }))))
+joined network plan differ named outcome None spelled files deserved = absurd (cc)
+joined network plan differ named outcome (Some bytes) spelled files deserved =
+    let both : Files = map.insert files network bytes in
+    let network_is : network_in both network ≡ Ok named = ap (λ (seen : Option (List ℕ)). found file_limit seen >>= network_from) (get_same files network bytes) ∙ spelled in
+    let plan_is : plan_in named both plan ≡ outcome =
+    ap (λ (seen : Option (List ℕ)). found file_limit seen >>= plan_from named) (get_inserted files network bytes plan ∙ ap (λ (test : Bool). cond test (Some bytes) (map.get files plan)) differ) ∙ deserved in (
+      both,
+      ap (λ (made : Result Named Fault). made >>= (λ (named : Named). plan_in named both plan >>= (λ (plan : Plan). Ok (record { named = named; plan = plan })))) network_is
+          ∙ ap (λ (made : Result Plan Fault). made >>= (λ (plan : Plan). Ok (record { named = named; plan = plan }))) plan_is,
+    )
+
+planned_seen : (told : Option Files) (network plan : List ℕ) → bytes_eq network plan ≡ false → (named : Named) (outcome : Result Plan Fault) → ForFiles told (λ files. network_in files network ≡ Ok named) → ForFiles told (λ files. plan_in named files plan ≡ outcome) → ForFiles told (λ files. planned_in files network plan ≡ (outcome >>= (λ (plan : Plan). Ok (record { named = named; plan = plan }))))
+planned_seen None network plan differ named outcome (first, is_first) (second, is_second) =
+    joined network plan (differ_too network plan differ) named outcome (bytes_of first network) is_first second is_second
+planned_seen (Some files) network plan differ named outcome is_first is_second =
+    ap (λ (made : Result Named Fault). made >>= (λ (named : Named). plan_in named files plan >>= (λ (plan : Plan). Ok (record { named = named; plan = plan })))) is_first
+    ∙ ap (λ (made : Result Plan Fault). made >>= (λ (plan : Plan). Ok (record { named = named; plan = plan }))) is_second
+
+planned_told : (told : Option Files) (network plan : List ℕ) (named : Named) → ForFiles told (λ files. network_in files network ≡ Ok named) → ForTold told (λ files. plan_in named files plan ≡ Err Read) → ForTold told (λ files. planned_in files network plan ≡ Err Read)
+planned_told None network plan named is_first is_second = is_second
+planned_told (Some files) network plan named is_first is_second =
+    ap (λ (made : Result Named Fault). made >>= (λ (named : Named). plan_in named files plan >>= (λ (plan : Plan). Ok (record { named = named; plan = plan })))) is_first
+    ∙ ap (λ (made : Result Plan Fault). made >>= (λ (plan : Plan). Ok (record { named = named; plan = plan }))) is_second
+
+-- what two readings found, of which the second began where the first left the shelf
+pub planned_found : (network plan : List ℕ) → bytes_eq network plan ≡ false → (named : Named) (outcome : Result Plan Fault) (before middle after : ShelfState) → Finds (λ files made. network_in files network ≡ made) (Ok named) before middle → Finds (λ files made. plan_in named files plan ≡ made) outcome middle after → Finds (λ files made. planned_in files network plan ≡ made) (outcome >>= (λ (plan : Plan). Ok (record { named = named; plan = plan }))) before after
+planned_found network plan differ named outcome before middle after first second =
+    from_start outcome (let P : ShelfState → Type 0 = λ shelf. Finds (λ files made. plan_in named files plan ≡ made) outcome shelf after in subst P first.0 second)
+  where
+    from_start : (outcome : Result Plan Fault) → Finds (λ files made. plan_in named files plan ≡ made) outcome before after → Finds (λ files made. planned_in files network plan ≡ made) (outcome >>= (λ (plan : Plan). Ok (record { named = named; plan = plan }))) before after
+    from_start (Err Memory) second = second
+    from_start (Err Read) (inl counted) = inl counted
+    from_start (Err Read) (inr missing) = inr (missing.0, planned_told before.files network plan named first.1 missing.1)
+    from_start (Ok made) second = (second.0, planned_seen before.files network plan differ named (Ok made) first.1 second.1)
+    from_start (Err fault) second = (second.0, planned_seen before.files network plan differ named (Err fault) first.1 second.1)
+
+-- where the network is at fault, the plan is not read
+pub planned_fault : (network plan : List ℕ) (fault : Fault) (before after : ShelfState) → Finds (λ files made. network_in files network ≡ made) (Err fault) before after → Finds (λ files made. planned_in files network plan ≡ made) (Err fault) before after
+planned_fault network plan Memory before after first = first
+planned_fault network plan Read before after (inl counted) = inl counted
+planned_fault network plan Read before after (inr missing) =
+    inr (missing.0, for_told before.files (λ files. network_in files network ≡ Err Read) (λ files. planned_in files network plan ≡ Err Read) (λ files seen. ap (λ (made : Result Named Fault). made >>= (λ (named : Named). plan_in named files plan >>= (λ (plan : Plan). Ok (record { named = named; plan = plan })))) seen) missing.1)
+planned_fault network plan fault before after first =
+    (first.0, for_files before.files (λ files. network_in files network ≡ Err fault) (λ files. planned_in files network plan ≡ Err fault) (λ files seen. ap (λ (made : Result Named Fault). made >>= (λ (named : Named). plan_in named files plan >>= (λ (plan : Plan). Ok (record { named = named; plan = plan })))) seen) first.1)

@@ -1,0 +1,15 @@
+-- What was found and carried out keeps the promise of the command.
+use Rattle.signal_cli.specs.Answers.{Deserves}
+use Rattle.signal_cli.specs.Commands.{outputs_of}
+use Rattle.signal_cli.specs.CommandViews.{view_of}
+use Rattle.signal_cli.specs.Worlds.{world}
+use Rattle.signal_cli.proofs.KeptPromises.{keeps}
+use Rattle.signal_cli.proofs.NamedOutputs.{outputs_are_named}
+use Rattle.signal_cli.proofs.top_call.run.Goals as goal
+
+pub returns-in-Some : goal.returns-in-Some
+returns-in-Some g c =
+    let before = world (g.F.Shelf.state c.args.shelf.now) (g.K.Sink.state c.args.out.now) in
+    let after = world (g.F.Shelf.state c.carry_out.new.shelf) (g.K.Sink.state c.carry_out.new.out) in
+    let command = view_of c.in-Some.command in
+    rw (← c.in-Some.ensures.value) (keeps (Deserves command) (outputs_of command) (outputs_are_named command) before after c.answer-found.result (g.F.Shelf.state c.answer-found.new.shelf) c.carry_out.result c.answer-found.ensures c.carry_out.ensures)
