@@ -1,15 +1,17 @@
 #!/usr/bin/env python3
 """Runs the program on random networks and plans, and compares it with tools/judge.py and tools/replay.py.
 
-usage: tools/fuzz.py SEED COUNT [PROGRAM]
+usage: tools/fuzz.py SEED COUNT [PROGRAM]   (Python 3.11, for tomllib)
 
 Case k of a seed is always the same: a small valid network with an admissible plan, in some spelling, and then mostly one
-or two changes of the network, of the plan or of the bytes of one of them. Where the judge accepts both, the program has to
-print what the replay gives; else it has to print the judge's line. Its status is compared too, and its standard error has
-to be empty. The program is the built one (run ./planner first) or the one that is named.
+or two changes of the network, of the plan or of the bytes of one of them. Where the judge accepts both, `replay` and `trace`
+have to print what the replay gives, and `trace` has to write its table; else both have to print the judge's line, and no
+table may be made. A case without a plan is traced with the plan of no signals, which is judged alike. Statuses are compared
+too, standard error has to be empty, and in the case's own folder nothing else may change. The program is the built one (run
+./planner first) or the one that is named.
 
 At the end stands how often each answer came and, from 2000 cases on, which of all refusals never came; the last line
-counts. The status is 0 where all cases passed and none of these is missing. Files of a case that failed are kept, and named.
+counts. The status is 0 where all cases passed and none of these is missing. The folder of a case that failed is kept, and named.
 """
 import collections
 import copy
@@ -26,6 +28,7 @@ import replay
 
 TOP = pathlib.Path(__file__).resolve().parent.parent
 PROGRAM = TOP / 'crates/signal_cli/out/signal_cli'
+NO_SIGNALS = b'ctm-plan 1\nend\n'
 
 
 # Valid networks, as tables of a document.
@@ -698,15 +701,16 @@ def case_of(seed, number):
 
 
 def expected(network, plan):
-    """The status, the printed text, and the word for the tally."""
+    """The status, the printed text, the table or None, and the word for the tally."""
     refused = judge.judge(network, plan)
-    if refused is None:
-        net = judge.judge_network(network)
-        text = plan.decode() if plan is not None else None
-        word = 'replay of turns' if any('turns' in link for link in net['link']) else 'replay'
-        return 0, 'delay %d\nleft %d\n' % replay.replay(net, text), word + (' and a signal' if net.get('signal') else '')
-    status, line = refused
-    return status, line + '\n', word_of(line)
+    if refused is not None:
+        status, line = refused
+        return status, line + '\n', None, word_of(line)
+    net = judge.judge_network(network)
+    text = plan.decode() if plan is not None else None
+    word = 'replay of turns' if any('turns' in link for link in net['link']) else 'replay'
+    printed = 'delay %d\nleft %d\n' % replay.replay(net, text)
+    return 0, printed, replay.trace(net, text), word + (' and a signal' if net.get('signal') else '')
 
 
 def word_of(line):
@@ -736,6 +740,29 @@ def wanted_words():
     return words + ['plan run %s' % fault for fault in ('start', 'order', 'green', 'short', 'surplus')]
 
 
+def faults_of(program, folder, network, plan):
+    """What `replay` and `trace` did in the case's folder otherwise than they have to, and the word for the tally."""
+    status, text, table, word = expected(network, plan)
+    files = {'net.toml': network, 'net.plan': NO_SIGNALS if plan is None else plan}
+    folder.mkdir()
+    for name, data in files.items():
+        (folder / name).write_bytes(data)
+    faults = []
+    for words in [['replay', 'net.toml'] + ['net.plan'] * (plan is not None), ['trace', 'net.toml', 'net.plan', 'table.csv']]:
+        if words[0] == 'trace' and table is not None:
+            files['table.csv'] = table.encode()
+        done = subprocess.run([program] + words, cwd=folder, stdout=subprocess.PIPE, stderr=subprocess.PIPE)
+        behind = {file.name: file.read_bytes() for file in folder.iterdir()}
+        for what, got, wanted in [('ended with', done.returncode, status), ('printed', done.stdout, text.encode()),
+                                  ('wrote to standard error', done.stderr, b'')]:
+            if got != wanted:
+                faults.append('%s %s %r, not %r' % (words[0], what, got, wanted))
+        for name in sorted(set(behind) | set(files)):
+            if behind.get(name) != files.get(name):
+                faults.append('%s did not leave %s as it has to be' % (words[0], name))
+    return faults, word
+
+
 def main():
     if len(sys.argv) not in (3, 4):
         sys.exit('usage: tools/fuzz.py SEED COUNT [PROGRAM]')
@@ -747,22 +774,13 @@ def main():
     tally, failed = collections.Counter(), 0
     for number in range(count):
         network, plan = case_of(seed, number)
-        status, text, word = expected(network, plan)
+        faults, word = faults_of(program, folder / str(number), network, plan)
         tally[word] += 1
-        net_file, plan_file = folder / ('%d.toml' % number), folder / ('%d.plan' % number)
-        net_file.write_bytes(network)
-        files = [net_file]
-        if plan is not None:
-            plan_file.write_bytes(plan)
-            files.append(plan_file)
-        done = subprocess.run([program, 'replay'] + files, stdout=subprocess.PIPE, stderr=subprocess.PIPE)
-        if (done.returncode, done.stdout, done.stderr) == (status, text.encode(), b''):
-            for file in files:
-                file.unlink()
-        else:
+        if faults:
             failed += 1
-            print('case %d: status %d and %r, not %d and %r: %s' %
-                  (number, done.returncode, (done.stdout + done.stderr).decode(errors='replace'), status, text, ' '.join(map(str, files))))
+            print('case %d, in %s: %s' % (number, folder / str(number), '; '.join(faults)))
+        else:
+            shutil.rmtree(folder / str(number))
     for word in sorted(tally):
         print('%6d  %s' % (tally[word], word))
     missed = [word for word in wanted_words() if not tally[word]] if count >= 2000 else []

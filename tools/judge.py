@@ -1,7 +1,7 @@
 #!/usr/bin/env python3
 """Says the first refusal of a network file, and of a plan file, apart from the program.
 
-usage: tools/judge.py NET [PLAN]
+usage: tools/judge.py NET [PLAN]   (Python 3.11, for tomllib)
 
 It prints the line that the program has to print and ends with the status that the program has to end with; of accepted
 files it prints `accepted` and ends with 0. The rules are those of docs/network-file.md and docs/plan-file.md, written down

@@ -1,9 +1,11 @@
 #!/usr/bin/env python3
 """Replays a network file by the text of docs/traffic.md, apart from the program, and prints its two lines.
 
-usage: tools/replay.py NET [PLAN]
+usage: tools/replay.py NET [PLAN] [--trace]   (Python 3.11, for tomllib)
 
-It is for accepted files: it refuses nothing (tools/judge.py says what is refused). It serves every key of the model.
+With --trace it prints the table that the program's `trace` writes, in place of the two lines: a header, and one line for
+each step and cell. It is for accepted files: it refuses nothing (tools/judge.py says what is refused). It serves every key
+of the model.
 """
 import sys
 import tomllib
@@ -26,7 +28,7 @@ def cells_of(net):
         wave = link.get('wave', [1, 1])
         if link['pieces']:
             demand = [sum(rate for start, until, rate in link['pieces'] if start <= t < until) for t in range(steps)]
-            cells.append({'queue': True, 'cap': link['cap'], 'gate': None, 'out': [(road, 1)], 'units': 0, 'demand': demand})
+            cells.append({'link': link['name'], 'place': 'q', 'cap': link['cap'], 'gate': None, 'out': [(road, 1)], 'units': 0, 'demand': demand})
         for place in range(count):
             last = place + 1 == count
             if not last:
@@ -36,8 +38,8 @@ def cells_of(net):
             else:
                 out = [(first[turn['link']], turn['parcel']) for turn in link.get('turns', [])]
             gate = (link['signal'], set(link['greens'])) if last and 'signal' in link else None
-            cells.append({'queue': False, 'cap': link['cap'], 'store': link['store'], 'wave': wave, 'gate': gate, 'out': out,
-                          'units': link.get('initial', [0] * count)[place], 'demand': [0] * steps})
+            cells.append({'link': link['name'], 'place': place, 'cap': link['cap'], 'gate': gate, 'out': out,
+                          'store': link['store'], 'wave': wave, 'units': link.get('initial', [0] * count)[place], 'demand': [0] * steps})
     return cells
 
 
@@ -69,10 +71,11 @@ def flow_of(cells, cell, is_open):
     return min(terms)
 
 
-def replay(net, plan):
+def rows_of(net, plan):
+    """The rows (step, link, cell, units, out, delay) of a replay, and the units that are left at the horizon."""
     cells = cells_of(net)
     words = letters_of(net, plan) if plan is not None else {}
-    delay = 0
+    rows = []
     for t in range(net['steps']):
         flows = []
         for cell in cells:
@@ -81,20 +84,36 @@ def replay(net, plan):
         change = [cell['demand'][t] for cell in cells]
         for i, (cell, flow) in enumerate(zip(cells, flows)):
             sent = flow * (sum(share for _, share in cell['out']) or 1)
-            delay += cell['units'] - sent
+            rows.append((t, cell['link'], cell['place'], cell['units'], sent, cell['units'] - sent))
             change[i] -= sent
             for k, share in cell['out']:
                 change[k] += share * flow
         for cell, more in zip(cells, change):
             cell['units'] += more
-    return delay, sum(cell['units'] for cell in cells)
+    return rows, sum(cell['units'] for cell in cells)
+
+
+def replay(net, plan):
+    """The delay, and the units that are left."""
+    rows, left = rows_of(net, plan)
+    return sum(row[-1] for row in rows), left
+
+
+def trace(net, plan):
+    """The table of a replay as text."""
+    rows, _ = rows_of(net, plan)
+    return 'step,link,cell,units,out,delay\n' + ''.join('%d,%s,%s,%d,%d,%d\n' % row for row in rows)
 
 
 def main():
-    with open(sys.argv[1], 'rb') as file:
+    files = [word for word in sys.argv[1:] if word != '--trace']
+    with open(files[0], 'rb') as file:
         net = tomllib.load(file)
-    plan = open(sys.argv[2]).read() if len(sys.argv) > 2 else None
-    print('delay %d\nleft %d' % replay(net, plan))
+    plan = open(files[1]).read() if len(files) > 1 else None
+    if '--trace' in sys.argv:
+        print(trace(net, plan), end='')
+    else:
+        print('delay %d\nleft %d' % replay(net, plan))
 
 
 if __name__ == '__main__':
