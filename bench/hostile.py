@@ -4,24 +4,27 @@
 usage: bench/hostile.py [PROGRAM]
 
 Each file is written into a temporary folder, and the program replays it: a network alone or with its plan, or a plan for a
-small network with a signal. A line tells the status, the printed lines, the wall time and the peak memory of the process.
-A file passes where the program ends within a second and 64 MB (256 MB for the three in WIDE) with a status from 0 to 8 and a
-line of the formats, and where the table names the answer, with this one. The last line counts. The program is the built
-one: run ./planner first.
+small network with a signal. The heaviest networks are traced too, into a file of that folder. A line tells the status, the
+printed lines, the instructions in millions and the peak memory of the process. A file passes where the program ends within
+MILLIONS and 64 MB (256 MB for the three in WIDE) with a status from 0 to 8 and a line of the formats, and where the table
+names the answer, with this one. The last line counts.
 
-The peak is that of a process started by a small one of Python, whose own 10 MB or so are the least that can be seen.
+The memory is that of a plain run, which is ended after ten seconds of work and then not counted. The instructions are those of
+a second run, under `valgrind --tool=callgrind`: the program's own, and not what the system does for it. So what else the
+machine does decides nothing. All of it takes about two minutes. The program is the built one (run ./planner first) or
+the one that is named.
 """
-import json
+import math
 import pathlib
 import re
-import subprocess
 import sys
 import tempfile
 
-TOP = pathlib.Path(__file__).resolve().parent.parent
-PROGRAM = TOP / 'crates/signal_cli/out/signal_cli'
+import measure
+
 LONGEST = 1_048_576
-SECONDS, KILOBYTES, WIDE_KILOBYTES = 1.0, 65_536, 262_144
+MILLIONS = 2_200  # of instructions: about twice what the worst file takes, one of nothing but small tables
+KILOBYTES, WIDE_KILOBYTES = 65_536, 262_144
 LINES = re.compile(r'delay \d+\nleft \d+\n|words\n|network (long|toml|format|(key|range) [a-z]+( \d+)+|name [a-z]+( \d+)+'
                    r'|(unknown(link|signal|phase)|outboth|itself|twiceturn|fed|openmerge|initial|cells|demand|phase)( [a-z0-9]+)+)\n'
                    r'|plan (long|(form|signal|missing) \d+|run \d+ (start|order|green|short|surplus))\n|read fault\n|want of memory\n')
@@ -102,7 +105,7 @@ def most_turns():
     return links(64, keys) + signals(16, 8)
 
 
-# What is tried: a name, a network, a plan or None, and the answer where it is known for sure. The files in WIDE have
+# What is tried: a name, a network, a plan or None, and the answer, or None where it is not known for sure. The files in WIDE have
 # 256 MB, since each is made of some hundred thousand tables of one key, and the library `toml` takes a kilobyte or a little
 # more for such a table, in proportion to the file, and as much where it refuses the document at its end.
 
@@ -188,48 +191,45 @@ def plans():
     yield '1,048,577 bytes', filled(head + 'a 60\nb 60\n' * 2 + 'end\n', ' ') + ' ', 'plan long'
 
 
-# The process that starts the program, and tells what it did: its own memory is small, since what a process held before it
-# became another program counts. After ten seconds of work the program is ended, which shows as a status below 0.
-STARTER = '''
-import json, os, resource, sys, time
-resource.setrlimit(resource.RLIMIT_CPU, (10, 10))
-out, to_out = os.pipe()
-begun = time.monotonic()
-process = os.posix_spawn(sys.argv[1], sys.argv[1:], {}, file_actions=[(os.POSIX_SPAWN_DUP2, to_out, 1), (os.POSIX_SPAWN_CLOSE, to_out)])
-os.close(to_out)
-printed = b''.join(iter(lambda: os.read(out, 65536), b''))
-_, status, used = os.wait4(process, 0)
-print(json.dumps([os.waitstatus_to_exitcode(status), printed.decode(errors='replace')[:200], time.monotonic() - begun, used.ru_maxrss]))
-'''
+def traces():
+    yield 'the most demand', most_demand(), plan_of(16, 8), None
+    yield 'the most turns and merges', most_turns(), plan_of(16, 8), None
 
 
-def replayed(program, files):
-    """The status, the printed text, the seconds and the kilobytes of a replay."""
-    done = subprocess.run([sys.executable, '-S', '-c', STARTER, program, 'replay'] + files, stdout=subprocess.PIPE, check=True, timeout=600)
-    return json.loads(done.stdout)
+def cases():
+    """All that is tried, each with the command that it is for."""
+    for what, network, plan, want in networks():
+        yield 'network: ' + what, 'replay', network, plan, want
+    for what, plan, want in plans():
+        yield 'plan: ' + what, 'replay', SMALL, plan, want
+    for what, network, plan, want in traces():
+        yield 'trace: ' + what, 'trace', network, plan, want
+
+
+def words_of(folder, command, network, plan):
+    """Writes the files of a case into the folder: the words that tell the program of them."""
+    words = [command]
+    for file, text in [(folder / 'net.toml', network), (folder / 'net.plan', plan)]:
+        if text is not None:
+            file.write_bytes(text if isinstance(text, bytes) else text.encode())
+            words.append(file)
+    return words + [folder / 'table.csv'] * (command == 'trace')
 
 
 def main():
-    program = pathlib.Path(sys.argv[1]).resolve() if len(sys.argv) > 1 else PROGRAM
-    if not program.exists():
-        sys.exit('bench: the program is not built; run ./planner first')
+    program = measure.program()
     passed = failed = 0
     with tempfile.TemporaryDirectory() as name:
-        folder = pathlib.Path(name)
-        cases = [('network: ' + what, network, plan, want) for what, network, plan, want in networks()]
-        cases += [('plan: ' + what, SMALL, plan, want) for what, plan, want in plans()]
-        for what, network, plan, want in cases:
-            files = []
-            for file, text in [(folder / 'net.toml', network), (folder / 'net.plan', plan)]:
-                if text is not None:
-                    file.write_bytes(text if isinstance(text, bytes) else text.encode())
-                    files.append(file)
-            status, printed, seconds, memory = replayed(program, files)
+        for what, command, network, plan, want in cases():
+            words = [program, *words_of(pathlib.Path(name), command, network, plan)]
+            status, printed, memory = measure.run(words)
+            is_own = 0 <= status <= 8
+            millions = measure.instructions(words, status).total / 1_000_000 if is_own else math.inf
             limit = WIDE_KILOBYTES if what in WIDE else KILOBYTES
             is_line = LINES.fullmatch(printed) is not None and (want is None or printed.startswith(want + '\n'))
-            good = 0 <= status <= 8 and is_line and seconds <= SECONDS and memory <= limit
+            good = is_own and is_line and millions <= MILLIONS and memory <= limit
             passed, failed = passed + good, failed + (not good)
-            print('%s%-50s %d  %-28s %6.3f s %6d kB' % ('' if good else 'FAILED ', what, status, printed.strip().replace('\n', ', '), seconds, memory))
+            print('%s%-50s %d  %-28s %6.1f M %6d kB' % ('' if good else 'FAILED ', what, status, printed[:200].strip().replace('\n', ', '), millions, memory))
             if not good and want is not None and not printed.startswith(want + '\n'):
                 print('       wanted: %s' % want)
     print('%d passed, %d failed' % (passed, failed))

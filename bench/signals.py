@@ -1,7 +1,7 @@
 #!/usr/bin/env python3
 """Counts what a replay costs on a network with signals, gates, merges and diverges: instructions and peak memory, no times.
 
-usage: bench/signals.py
+usage: bench/signals.py [PROGRAM]
 
 The network: 16 arms, each with a signal of two phases. The link `in` of an arm has a queue, 8 cells and a diverge behind
 the green of `main`, with 3 units of a parcel to `on` and 1 to `off`; the link `side` has a queue, 2 cells and leads to `on`
@@ -9,7 +9,7 @@ behind the green of `cross`, so that each `on` is a merge. `on` has 3 cells and 
 All `cap` 20 and `store` 80, but `side` half of it, `wave = [1, 3]`; 8 units a step come into `in` and 3 into `side`. The plan
 gives `main` 12 steps and `cross` 6, with 2 steps of clearance, and begins each arm at another place of this cycle. It runs
 over 240 steps under `valgrind --tool=callgrind`, and over 120 steps with the front of the plan; the cost of a cell and step is the
-difference over 120 x 256. The program is the built one: run ./planner first.
+difference over 120 x 256. The program is the built one (run ./planner first) or the one that is named.
 """
 import pathlib
 import tempfile
@@ -63,7 +63,7 @@ def written(folder, steps):
 def main():
     with tempfile.TemporaryDirectory() as name:
         folder = pathlib.Path(name)
-        chain.report(folder, written(folder, 240), written(folder, 120), CELLS)
+        chain.report(written(folder, 240), written(folder, 120), CELLS)
 
 
 if __name__ == '__main__':
