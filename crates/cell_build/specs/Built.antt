@@ -19,9 +19,11 @@ abbrev pub start_among : List (List ℕ) → Option (List ℕ) → ℕ
 start_among names None = 0
 start_among names (Some name) = number_of names name
 
+-- a phase of a signal whose phases have these names
 abbrev pub phase_built : List (List ℕ) → RawPhase → Phase
 phase_built names phase = record { min = phase.min; max = phase.max; clear = phase.clear; next = set_of names phase.next }
 
+-- a signal, with its phases by number
 abbrev pub signal_built : RawSignal → Signal
 signal_built signal =
     record { start = start_among (phase_names signal) signal.start; phases = table_of (length signal.phases) (λ p. phase_built (phase_names signal) (phase_of signal p)) }

@@ -44,11 +44,13 @@ out_by links None (turn ∷ turns) = Turns (map (λ (branch : List ℕ × ℕ). 
 abbrev pub signal_named : List RawSignal → List ℕ → RawSignal
 signal_named signals name = signal_of signals (number_of (signal_names signals) name)
 
+-- the gate of a link with this signal and these greens, by their names
 abbrev pub gate_by : List RawSignal → Option (List ℕ) → List (List ℕ) → Option Gate
 gate_by signals None greens = None
 gate_by signals (Some name) greens =
     Some (record { signal = number_of (signal_names signals) name; greens = set_of (phase_names (signal_named signals name)) greens })
 
+-- the gate of a link, where it has a signal
 abbrev pub gate_of : List RawSignal → RawLink → Option Gate
 gate_of signals link = gate_by signals link.signal link.greens
 

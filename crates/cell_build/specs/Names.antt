@@ -9,9 +9,11 @@ use Rattle.network_file.specs.declared.raw.RawPhase.{RawPhase}
 abbrev pub no_link : RawLink
 no_link = record { name = []; cells = 0; cap = 0; store = 0; wave_p = 0; wave_q = 0; to = None; turns = []; signal = None; greens = []; initial = None; pieces = [] }
 
+-- what stands for a phase that is not there
 abbrev pub no_phase : RawPhase
 no_phase = record { name = []; min = 0; max = 0; clear = 0; next = [] }
 
+-- what stands for a signal that is not there
 abbrev pub no_signal : RawSignal
 no_signal = record { name = []; start = None; phases = [] }
 
@@ -19,9 +21,11 @@ no_signal = record { name = []; start = None; phases = [] }
 abbrev pub link_of : List RawLink → ℕ → RawLink
 link_of links k = slice_index_or links k no_link
 
+-- the signal with a number
 abbrev pub signal_of : List RawSignal → ℕ → RawSignal
 signal_of signals s = slice_index_or signals s no_signal
 
+-- the phase of a signal with a number
 abbrev pub phase_of : RawSignal → ℕ → RawPhase
 phase_of signal p = slice_index_or signal.phases p no_phase
 
@@ -29,9 +33,11 @@ phase_of signal p = slice_index_or signal.phases p no_phase
 abbrev pub link_names : List RawLink → List (List ℕ)
 link_names links = map (λ (link : RawLink). link.name) links
 
+-- the names of all signals
 abbrev pub signal_names : List RawSignal → List (List ℕ)
 signal_names signals = map (λ (signal : RawSignal). signal.name) signals
 
+-- the names of the phases of a signal
 abbrev pub phase_names : RawSignal → List (List ℕ)
 phase_names signal = map (λ (phase : RawPhase). phase.name) signal.phases
 
@@ -53,5 +59,6 @@ abbrev pub name_in : Option (List ℕ) → List (List ℕ)
 name_in None = []
 name_in (Some name) = name ∷ []
 
+-- the names of the links that a link leads to: `to` first, then the branches
 abbrev pub names_led_to : RawLink → List (List ℕ)
 names_led_to link = name_in link.to ++ map (λ (turn : List ℕ × ℕ). turn.0) link.turns

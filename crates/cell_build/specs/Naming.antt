@@ -26,6 +26,7 @@ pub record NameTable : Type 0 where
 abbrev pub signal_names_at : NameTable → ℕ → SignalNames
 signal_names_at names s = slice_index_or names.signals s (record { name = []; phases = [] })
 
+-- the place of the cell with a number
 abbrev pub place_at : NameTable → ℕ → Place
 place_at names i = slice_index_or names.places i (record { link = 0; road = None })
 
@@ -34,12 +35,15 @@ abbrev pub queue_place : ℕ → List Piece → List Place
 queue_place k [] = []
 queue_place k (piece ∷ pieces) = (record { link = k; road = None }) ∷ []
 
+-- the places of the cells of link k
 abbrev pub places_of_link : ℕ → RawLink → List Place
 places_of_link k link = queue_place k link.pieces ++ table_of link.cells (λ i. record { link = k; road = Some i })
 
+-- the places of all cells, link by link
 unfoldable pub places_of : List RawLink → List Place
 places_of links = join_below (length links) (λ k. places_of_link k (link_of links k))
 
+-- the names of a signal and of its phases
 abbrev pub names_of_signal : RawSignal → SignalNames
 names_of_signal signal = record { name = signal.name; phases = phase_names signal }
 

@@ -11,9 +11,11 @@ use Rattle.ct_base.specs.declared.signal.Phase.{Phase}
 abbrev pub no_cell : Cell
 no_cell = record { kind = Road; cap = 0; store = 0; wave_p = 0; wave_q = 0; gate = None; out = Exit; initial = 0; demand = [] }
 
+-- what stands for a phase that is not there
 abbrev pub no_phase : Phase
 no_phase = record { min = 0; max = 0; clear = 0; next = 0 }
 
+-- what stands for a signal that is not there
 abbrev pub no_signal : Signal
 no_signal = record { start = 0; phases = [] }
 
@@ -21,9 +23,11 @@ no_signal = record { start = 0; phases = [] }
 abbrev pub cell_of : List Cell → ℕ → Cell
 cell_of cells i = slice_index_or cells i no_cell
 
+-- the signal with a number
 abbrev pub signal_of : List Signal → ℕ → Signal
 signal_of signals s = slice_index_or signals s no_signal
 
+-- the phase of a signal with a number
 abbrev pub phase_of : Signal → ℕ → Phase
 phase_of signal p = slice_index_or signal.phases p no_phase
 

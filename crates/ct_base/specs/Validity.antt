@@ -25,6 +25,7 @@ pub record IsPhase (phases p : ℕ) (phase : Phase) : Type 0 where
   pub followed_by_phases : phase.next < 2 ^ phases
   pub not_by_itself : bit_at phase.next p ≡ 0
 
+-- a signal has 2 to 8 phases that are valid, and starts with one of them
 pub record IsSignal (signal : Signal) : Type 0 where
   pub phases : IsBetween 2 8 (length signal.phases)
   pub start : signal.start < length signal.phases
@@ -47,6 +48,7 @@ pub record IsQueue (steps : ℕ) (cell : Cell) : Type 0 where
   pub demand : length cell.demand ≡ steps
   pub demand_in_range : All (λ units. units ≤ 1000) cell.demand
 
+-- a road cell has a storage, a wave ratio and units at the start within their limits, and no demand
 pub record IsRoad (cell : Cell) : Type 0 where
   pub store : IsBetween 1 10000 cell.store
   pub wave_p : IsBetween 1 cell.wave_q cell.wave_p
@@ -54,6 +56,7 @@ pub record IsRoad (cell : Cell) : Type 0 where
   pub initial : cell.initial ≤ cell.store
   pub demand : cell.demand ≡ []
 
+-- a cell is as its kind asks
 abbrev pub IsOfKind : Kind → ℕ → Cell → Type 0
 IsOfKind Queue steps cell = IsQueue steps cell
 IsOfKind Road steps cell = IsRoad cell

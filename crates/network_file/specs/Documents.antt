@@ -8,10 +8,12 @@ abbrev pub is_whole : Data → Bool
 is_whole (integer z) = true
 is_whole _ = false
 
+-- the value is a text
 abbrev pub is_text : Data → Bool
 is_text (string text) = true
 is_text _ = false
 
+-- the value is a table
 abbrev pub is_table : Data → Bool
 is_table (table ms) = true
 is_table _ = false
@@ -46,6 +48,7 @@ abbrev pub each_item : {X : Type 0} → (Data → X) → Items → List X
 each_item f no_items = []
 each_item f (item d ds) = f d ∷ each_item f ds
 
+-- what each item of an array is; none where the value is no array
 abbrev pub array_of : {X : Type 0} → (Data → X) → Data → List X
 array_of f (array ds) = each_item f ds
 array_of f _ = []
@@ -56,6 +59,7 @@ tables_among no_items = []
 tables_among (item (table ms) ds) = ms ∷ tables_among ds
 tables_among (item _ ds) = tables_among ds
 
+-- the tables of an array; none where the value is no array
 abbrev pub tables_of : Data → List Members
 tables_of (array ds) = tables_among ds
 tables_of _ = []
@@ -68,15 +72,19 @@ stands key ms = option_map_or (λ (d : Data). true) (get_member key ms) false
 abbrev pub number_at : ℕ → List ℕ → Members → ℕ
 number_at default key ms = option_map_or number_of (get_member key ms) default
 
+-- the text of a key; empty where there is none
 abbrev pub text_at : List ℕ → Members → List ℕ
 text_at key ms = option_map_or text_of (get_member key ms) []
 
+-- the numbers of a key; none where it does not stand
 abbrev pub numbers_at : List ℕ → Members → List ℕ
 numbers_at key ms = option_map_or (array_of number_of) (get_member key ms) []
 
+-- the texts of a key; none where it does not stand
 abbrev pub texts_at : List ℕ → Members → List (List ℕ)
 texts_at key ms = option_map_or (array_of text_of) (get_member key ms) []
 
+-- the tables of a key; none where it does not stand
 abbrev pub tables_at : List ℕ → Members → List Members
 tables_at key ms = option_map_or tables_of (get_member key ms) []
 
@@ -84,5 +92,6 @@ tables_at key ms = option_map_or tables_of (get_member key ms) []
 abbrev pub some_text_at : List ℕ → Members → Option (List ℕ)
 some_text_at key ms = option_map_or (λ (d : Data). Some (text_of d)) (get_member key ms) None
 
+-- the numbers of a key that may be left out
 abbrev pub some_numbers_at : List ℕ → Members → Option (List ℕ)
 some_numbers_at key ms = option_map_or (λ (d : Data). Some (array_of number_of d)) (get_member key ms) None

@@ -5,12 +5,14 @@ use Rattle.toml.specs.Data.{Data, string, integer, array, no_items, item, Member
 use Rattle.texts.specs.Names.{is_name}
 use Rattle.network_file.specs.Documents.{all_items, count_of, is_array_of, is_table, is_text, is_whole, stands}
 
+-- a key of a table: its name, where it must stand, its type and its range
 pub record Key : Type 0 where
   pub name : List ℕ
   pub is_needed : Members → Bool
   pub has_type : Data → Bool
   pub is_in_range : Data → Bool
 
+-- a key with these four
 abbrev pub key : List ℕ → (Members → Bool) → (Data → Bool) → (Data → Bool) → Key
 key name is_needed has_type is_in_range = record { name = name; is_needed = is_needed; has_type = has_type; is_in_range = is_in_range }
 
@@ -18,9 +20,11 @@ key name is_needed has_type is_in_range = record { name = name; is_needed = is_n
 abbrev pub needed : Members → Bool
 needed ms = true
 
+-- the key may be left out
 abbrev pub optional : Members → Bool
 optional ms = false
 
+-- the key must stand where another does
 abbrev pub needed_with : List ℕ → Members → Bool
 needed_with other ms = stands other ms
 
@@ -28,18 +32,22 @@ needed_with other ms = stands other ms
 abbrev pub any : Data → Bool
 any d = true
 
+-- the text has the shape of a name
 abbrev pub name_shape : Data → Bool
 name_shape (string text) = is_name text
 name_shape _ = false
 
+-- a whole number from low to high
 abbrev pub whole : ℕ → ℕ → Data → Bool
 whole low high (integer (pos n)) = nat_le low n && nat_le n high
 whole low high _ = false
 
+-- an array of so many items
 abbrev pub count : ℕ → ℕ → Data → Bool
 count low high (array ds) = nat_le low (count_of ds) && nat_le (count_of ds) high
 count low high _ = false
 
+-- an array of at most so many whole numbers, each from low to high
 abbrev pub wholes : ℕ → ℕ → ℕ → Data → Bool
 wholes most low high (array ds) = nat_le (count_of ds) most && all_items (whole low high) ds
 wholes most low high _ = false
@@ -49,6 +57,7 @@ abbrev pub wave : Data → Bool
 wave (array (item (integer (pos p)) (item (integer (pos q)) no_items))) = nat_le 1 p && (nat_le p q && nat_le q 100)
 wave _ = false
 
+-- the keys of the top table
 abbrev pub top_keys : List Key
 top_keys =
     key (codes "format") needed is_whole any
@@ -57,6 +66,7 @@ top_keys =
     ∷ key (codes "signal") optional (is_array_of is_table) (count 0 16)
     ∷ []
 
+-- the keys of a link
 abbrev pub link_keys : List Key
 link_keys =
     key (codes "name") needed is_text name_shape
@@ -73,12 +83,14 @@ link_keys =
     ∷ key (codes "rates") optional (is_array_of is_whole) (wholes 240 0 1000)
     ∷ []
 
+-- the keys of a turn
 abbrev pub turn_keys : List Key
 turn_keys =
     key (codes "link") needed is_text any
     ∷ key (codes "parcel") needed is_whole (whole 1 100)
     ∷ []
 
+-- the keys of a piece of demand
 abbrev pub piece_keys : List Key
 piece_keys =
     key (codes "from") needed is_whole (whole 0 240)
@@ -86,6 +98,7 @@ piece_keys =
     ∷ key (codes "rate") needed is_whole (whole 0 1000)
     ∷ []
 
+-- the keys of a signal
 abbrev pub signal_keys : List Key
 signal_keys =
     key (codes "name") needed is_text name_shape
@@ -93,6 +106,7 @@ signal_keys =
     ∷ key (codes "phase") needed (is_array_of is_table) (count 2 8)
     ∷ []
 
+-- the keys of a phase
 abbrev pub phase_keys : List Key
 phase_keys =
     key (codes "name") needed is_text name_shape

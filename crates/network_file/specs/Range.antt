@@ -15,11 +15,13 @@ abbrev pub all_differ : List (List ℕ) → Bool
 all_differ [] = true
 all_differ (text ∷ texts) = not (list_any (bytes_eq text) texts) && all_differ texts
 
+-- a piece of demand has its numbers in range
 pub record IsPieceInRange (piece : Piece) : Type 0 where
   pub first : piece.first ≤ 240
   pub until : piece.until ≤ 240
   pub rate : piece.rate ≤ 1000
 
+-- a link has its name, numbers and lists in range
 pub record IsLinkInRange (link : RawLink) : Type 0 where
   pub name : is_name link.name ≡ true
   pub cells : IsBetween 1 256 link.cells
@@ -36,6 +38,7 @@ pub record IsLinkInRange (link : RawLink) : Type 0 where
   pub pieces : length link.pieces ≤ 480
   pub each_piece : All IsPieceInRange link.pieces
 
+-- a phase has its name and numbers in range
 pub record IsPhaseInRange (phase : RawPhase) : Type 0 where
   pub name : is_name phase.name ≡ true
   pub min : IsBetween 1 60 phase.min
@@ -43,6 +46,7 @@ pub record IsPhaseInRange (phase : RawPhase) : Type 0 where
   pub clear : phase.clear ≤ 20
   pub next : length phase.next ≤ 16
 
+-- a signal has its name and phases in range
 pub record IsSignalInRange (signal : RawSignal) : Type 0 where
   pub name : is_name signal.name ≡ true
   pub phases : IsBetween 2 8 (length signal.phases)

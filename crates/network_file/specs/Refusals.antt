@@ -20,6 +20,7 @@ pub record Place : Type 0 where
   pub keys : List Key
   pub members : Members
 
+-- a table of the file, with the keys that it may have
 abbrev pub place : At → List Key → Members → Place
 place at keys members = record { at = at; keys = keys; members = members }
 
@@ -31,9 +32,11 @@ number i = min i 4294967295
 abbrev pub turn_places : ℕ → ℕ → Members → List Place
 turn_places k j turn = place (Turn (number k) (number j)) turn_keys turn ∷ []
 
+-- the table of piece j of link k
 abbrev pub piece_places : ℕ → ℕ → Members → List Place
 piece_places k j piece = place (Piece (number k) (number j)) piece_keys piece ∷ []
 
+-- the table of link k, then those of its turns and its pieces
 abbrev pub link_places : ℕ → Members → List Place
 link_places k link =
     place (Link (number k)) link_keys link
@@ -43,6 +46,7 @@ link_places k link =
 abbrev pub phase_places : ℕ → ℕ → Members → List Place
 phase_places s p phase = place (Phase (number s) (number p)) phase_keys phase ∷ []
 
+-- the table of signal s, and then those of its phases
 abbrev pub signal_places : ℕ → Members → List Place
 signal_places s signal = place (Signal (number s)) signal_keys signal ∷ per_item no_members (tables_at (codes "phase") signal) (phase_places s)
 
@@ -79,6 +83,7 @@ key_faults_at place =
 abbrev pub is_out_of_range : Members → Key → Bool
 is_out_of_range ms key = option_map_or (λ (d : Data). not (key.is_in_range d)) (get_member key.name ms) false
 
+-- the keys of a table whose values are out of range
 abbrev pub range_faults_at : Place → List NetFault
 range_faults_at place = per_item no_key place.keys (λ k key. where_so (is_out_of_range place.members key) (fault.Range place.at (k + 1)))
 
@@ -86,6 +91,7 @@ range_faults_at place = per_item no_key place.keys (λ k key. where_so (is_out_o
 abbrev pub name_faults_at : List (List ℕ) → (ℕ → At) → ℕ → List ℕ → List NetFault
 name_faults_at names at i name = where_so (list_any (bytes_eq name) (take i names)) (fault.Name (at i))
 
+-- the names of tables
 abbrev pub names_of : List Members → List (List ℕ)
 names_of tables = map (text_at (codes "name")) tables
 
@@ -93,9 +99,11 @@ names_of tables = map (text_at (codes "name")) tables
 abbrev pub link_name_faults : List (List ℕ) → List NetFault
 link_name_faults names = per_item [] names (name_faults_at names (λ k. Link (number k)))
 
+-- the phases of signal s whose names an earlier one of it has
 abbrev pub phase_name_faults : ℕ → List (List ℕ) → List NetFault
 phase_name_faults s names = per_item [] names (name_faults_at names (λ p. Phase (number s) (number p)))
 
+-- signal s where an earlier one has its name, and then its phases
 abbrev pub signal_name_faults : List Members → ℕ → Members → List NetFault
 signal_name_faults signals s signal =
     name_faults_at (names_of signals) (λ k. Signal (number k)) s (text_at (codes "name") signal)
@@ -105,13 +113,16 @@ signal_name_faults signals s signal =
 unfoldable pub key_faults : Members → List NetFault
 key_faults top = flat_map key_faults_at (walk top)
 
+-- the faults of range of all tables, in the order of the walk
 unfoldable pub range_faults : Members → List NetFault
 range_faults top = flat_map range_faults_at (walk top)
 
+-- the faults of names of all tables, in the order of the walk
 unfoldable pub name_faults : Members → List NetFault
 name_faults top =
     link_name_faults (names_of (tables_at (codes "link") top))
     ++ per_item no_members (tables_at (codes "signal") top) (signal_name_faults (tables_at (codes "signal") top))
 
+-- the faults of a document: all of keys, then all of ranges, then all of names
 abbrev pub faults_of : Members → List NetFault
 faults_of top = key_faults top ++ (range_faults top ++ name_faults top)

@@ -21,9 +21,11 @@ abbrev pub pieces_from : ℕ → List ℕ → List Piece
 pieces_from t [] = []
 pieces_from t (rate ∷ rates) = (record { first = t; until = t + 1; rate = rate }) ∷ pieces_from (t + 1) rates
 
+-- a piece of demand, as its table spells it
 abbrev pub piece_of : Members → Piece
 piece_of ms = record { first = number_at 0 (codes "from") ms; until = number_at 0 (codes "until") ms; rate = number_at 0 (codes "rate") ms }
 
+-- a turn, as its table spells it: the name of a link, and its units of a parcel
 abbrev pub turn_of : Members → List ℕ × ℕ
 turn_of ms = (text_at (codes "link") ms, number_at 0 (codes "parcel") ms)
 
@@ -45,6 +47,7 @@ link_of ms =
       pieces = map piece_of (tables_at (codes "demand") ms) ++ pieces_from 0 (numbers_at (codes "rates") ms);
     }
 
+-- a phase, as its table spells it
 abbrev pub phase_of : Members → RawPhase
 phase_of ms =
     record {
@@ -55,6 +58,7 @@ phase_of ms =
       next = texts_at (codes "next") ms;
     }
 
+-- a signal, as its table spells it
 unfoldable pub signal_of : Members → RawSignal
 signal_of ms =
     record {

@@ -31,6 +31,7 @@ abbrev pub may_be : Signal → List Run → ℕ → ℕ
 may_be signal runs zero = 2 ^ signal.start
 may_be signal runs (suc i) = (phase_of signal (run_at runs i).phase).next
 
+-- the fault of run i where its phase may not stand there
 abbrev pub out_of_order : ℕ → RunFault
 out_of_order zero = Start
 out_of_order (suc i) = Order (suc i)

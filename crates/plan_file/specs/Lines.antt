@@ -30,14 +30,17 @@ abbrev pub run_line : List ℕ → Option ℕ → Line
 run_line phase None = Other
 run_line phase (Some green) = if is_name phase then OfRun phase green else Other
 
+-- what a line of two words is
 abbrev pub two_words : List ℕ → List ℕ → Line
 two_words first second = if bytes_eq first (codes "signal") && is_name second then OfSignal second else run_line first (natural_in 4 second)
 
+-- what a line of these words is
 abbrev pub line_by : List (List ℕ) → Line
 line_by (word ∷ []) = if bytes_eq word (codes "end") then End else Other
 line_by (first ∷ second ∷ []) = two_words first second
 line_by words = Other
 
+-- what a line of these bytes is
 abbrev pub line_of : List ℕ → Line
 line_of bytes = if bytes_eq bytes (codes "ctm-plan 1") then Head else line_by (words_of bytes)
 
@@ -52,5 +55,6 @@ lines_by [] = []
 lines_by (last ∷ []) = last_of last ∷ []
 lines_by (line ∷ next ∷ more) = line_of line ∷ lines_by (next ∷ more)
 
+-- the lines of a text
 unfoldable pub lines_of : List ℕ → List Line
 lines_of text = lines_by (slice_split (λ byte. byte == 10) text)

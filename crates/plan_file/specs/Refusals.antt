@@ -12,10 +12,12 @@ use Rattle.plan_file.specs.Lines.{Line, Head, OfSignal, OfRun, End, Nothing}
 use Rattle.plan_file.specs.declared.fault.PlanFault.{PlanFault}
 use Rattle.plan_file.specs.declared.fault.PlanFault.TheVariants.{Form, Signal, Run as RunAt, Missing}
 
+-- the line is the first of a plan file
 abbrev pub is_head : Line → Bool
 is_head Head = true
 is_head _ = false
 
+-- the line is the last of a plan file
 abbrev pub is_end : Line → Bool
 is_end End = true
 is_end _ = false
@@ -30,6 +32,7 @@ blocks_in (_ ∷ lines) = blocks_in lines
 abbrev pub phase_number : List (List ℕ) → List ℕ → ℕ
 phase_number names name = unwrap_or (position (bytes_eq name) names) (length names)
 
+-- a run by the name of its phase
 abbrev pub run_named : List (List ℕ) → List ℕ → ℕ → Run
 run_named names phase green = record { phase = phase_number names phase; green = green }
 

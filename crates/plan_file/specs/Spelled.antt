@@ -16,6 +16,7 @@ use Rattle.plan_file.specs.declared.fault.PlanFault.TheVariants.{Memory}
 abbrev pub word_at : Named → List Line → ℕ → List Letter
 word_at named lines s = take named.net.steps (letters_of_runs (signal_of named.net.signals s) (block_runs named lines s))
 
+-- the plan of the lines: a word for each signal
 abbrev pub plan_of : Named → List Line → Plan
 plan_of named lines = record { words = table_of (length named.net.signals) (word_at named lines) }
 
@@ -23,6 +24,7 @@ plan_of named lines = record { words = table_of (length named.net.signals) (word
 abbrev pub spelled_by : Named → List Line → Result Plan PlanFault
 spelled_by named lines = unless (faults_of named lines) (plan_of named lines)
 
+-- the plan that a text spells for a network, or the first fault
 unfoldable pub spelled_plan : Named → List ℕ → Result Plan PlanFault
 spelled_plan named text = spelled_by named (lines_of text)
 
