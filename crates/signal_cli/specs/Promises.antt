@@ -13,7 +13,7 @@ use Rattle.signal_cli.specs.declared.reply.Reply.{Reply}
 abbrev pub statuses_of_commands : List ℕ
 statuses_of_commands = 0 ∷ 1 ∷ 3 ∷ 4 ∷ 5 ∷ 6 ∷ 7 ∷ 8 ∷ []
 
--- words of no form: status 2 and the line `words`, and no call on the shelf
+-- words of no form: status 2 and the line `words`; the files and the counts of the shelf are as they were
 pub record RefusesWords (before after : World) (status : ℕ) : Type 0 where
   pub answered : status ≡ 2
   pub shelf : after.shelf ≡ before.shelf
