@@ -1,6 +1,6 @@
 //! Lists and texts that are filled, copied and read once at each type that the repository keeps in them.
 
-use crate::{Duplicate, Listed, Memory, Text};
+use crate::{Duplicate, Listed, Memory, Stack, Text};
 use std::alloc::Global;
 use std::test::Fail;
 
@@ -39,6 +39,14 @@ fn lists_and_texts_keep_what_is_pushed(rt: HostRuntime) -> Result<(), Fail> {
 
     let moved = Listed::of(units.into_vec());
     assert_eq!(rt; moved.as_slice(), [3u32, 1, 2].as_slice());
+
+    let mut waiting = Stack::new(alloc);
+    waiting.push(4u32)?;
+    waiting.push(9)?;
+    assert_eq!(rt; waiting.len(), 2);
+    assert_eq!(rt; waiting.pop(), Some(9));
+    assert_eq!(rt; waiting.pop(), Some(4));
+    assert_eq!(rt; waiting.pop(), None);
 
     let mut text = Text::new(alloc);
     for character in ['z', 'u', 'g', 'ü'] {

@@ -1,0 +1,4 @@
+pub mod SumLaws
+pub mod WholeSums
+pub mod TableLaws
+pub mod JoinLaws
