@@ -3,16 +3,15 @@ use Rattle.std.proofs.Common.{◌≡◌, ℕ, ◌+◌, ◌*◌, ◌<◌, ◌≤�
 use Rattle.std.proofs.lemmas.Bool.{leb-false, ltb-false, or_parts}
 use Rattle.std.proofs.lemmas.List.{length-replicate, get_or-replicate, length-take-le, get_or-take, get_or_default}
 use Rattle.std.proofs.lemmas.List.Sums.{sum_by-le, sum_by_more}
-use Rattle.ct_base.proofs.TableLaws.{length-table_of, slice_index-table_of, fill}
+use Rattle.listed.proofs.TableLaws.{length-table_of, slice_index-table_of, fill}
+use Rattle.refusals.specs.Faults.{per_item, unless}
+use Rattle.refusals.proofs.FirstFaults.{unless_fine, where_none}
+use Rattle.refusals.proofs.Items.{per_item_none}
 use Rattle.std.specs.Prelude.{⊤}
-use Rattle.refusals.specs.Faults.{join_below, per_item, unless}
-use Rattle.refusals.proofs.FirstFaults.{unless_begins, unless_left, unless_refused, unless_right}
-use Rattle.refusals.proofs.JoinLaws.{join_below-same, join_none, where_none}
 use Rattle.demand.specs.declared.piece.Piece.{Piece}
-use Rattle.demand.specs.declared.fault.DemandFault.{DemandFault}
-use Rattle.demand.specs.declared.fault.DemandFault.TheVariants.{Range, Heavy, Memory}
-use Rattle.demand.specs.Spread.{Gives, faults_of, heavy_faults_at, holds, no_piece, range_faults_at, rate_at, rates_of, spread}
-use Rattle.demand.specs.Within.{IsLight, IsWithin, heavy_faults_of}
+use Rattle.demand.specs.declared.fault.DemandFault.TheVariants.{Range}
+use Rattle.demand.specs.Spread.{holds, range_at, rate_at, rates_of}
+use Rattle.demand.specs.inner.Within.{IsLight, IsWithin}
 
 -- one number a step
 pub length-rates_of : (pieces : List Piece) (steps : ℕ) → length (rates_of pieces steps) ≡ steps
@@ -60,43 +59,13 @@ rates_more pieces i steps d units there long same =
     ∙ sym (sum_by_more (λ (piece : Piece). if holds piece t then piece.rate else 0) pieces i d there))
 
 -- pieces without a fault can be summed within the horizon
-pub all_within : (pieces : List Piece) (steps : ℕ) → per_item no_piece pieces (range_faults_at steps) ≡ [] → All (IsWithin steps) pieces
-all_within pieces steps none = λ j d within.
-    let piece = get_or pieces j no_piece in
-    let fine : (nat_le piece.until piece.first || nat_lt steps piece.until) ≡ false =
-    where_none (nat_le piece.until piece.first || nat_lt steps piece.until) (Range j) (join_none (length pieces) (λ k. range_faults_at steps k (get_or pieces k no_piece)) j none within) in
-    let parts = or_parts (nat_le piece.until piece.first) (nat_lt steps piece.until) fine in
-    let is : IsWithin steps piece = record { some = leb-false piece.until piece.first parts.0; ends = ltb-false steps piece.until parts.1 } in
-    rw (get_or_default pieces j d no_piece within) is
+pub all_within : (pieces : List Piece) (steps : ℕ) (judged : ⊤) → Ok judged ≡ unless (per_item pieces (range_at steps)) judged → All (IsWithin steps) pieces
+all_within pieces steps judged fine = λ j d within.
+    let piece = get_or pieces j d in
+    let in_range : (nat_le piece.until piece.first || nat_lt steps piece.until) ≡ false =
+    where_none (nat_le piece.until piece.first || nat_lt steps piece.until) (Range j) (per_item_none pieces (range_at steps) j d (unless_fine _ judged judged fine) within) in
+    let parts = or_parts (nat_le piece.until piece.first) (nat_lt steps piece.until) in_range in
+    record { some = leb-false piece.until piece.first parts.0; ends = ltb-false steps piece.until parts.1 }
 
--- the faults of the units of each step are those of the steps
-pub heavy_faults-same : (pieces : List Piece) (steps : ℕ) → per_item 0 (rates_of pieces steps) heavy_faults_of ≡ join_below steps (heavy_faults_at pieces)
-heavy_faults-same pieces steps =
-    ap (λ n. join_below n (λ t. heavy_faults_of t (slice_index (rates_of pieces steps) t))) (length-rates_of pieces steps)
-    ∙ join_below-same steps (λ t. heavy_faults_of t (slice_index (rates_of pieces steps) t)) (heavy_faults_at pieces) (λ t within. ap (heavy_faults_of t) (slice_index-rates_of pieces steps t within))
-
--- a fault that is the answer is one that is given
-gives_refused : (e : DemandFault) (demand : Result (List ℕ) DemandFault) → Err e ≡ demand → Gives (Err e) demand
-gives_refused (Range piece) demand is = sym is
-gives_refused (Heavy step) demand is = sym is
-gives_refused Memory demand is = tt
-
--- pieces out of range come first
-pub spread-range : (pieces : List Piece) (steps : ℕ) (e : DemandFault) (judged : ⊤) → Err e ≡ unless (per_item no_piece pieces (range_faults_at steps)) judged → Gives (Err e) (spread pieces steps)
-unfolding spread faults_of
-spread-range pieces steps e judged refused =
-    gives_refused e _ (unless_left (per_item no_piece pieces (range_faults_at steps)) (join_below steps (heavy_faults_at pieces)) judged (rates_of pieces steps) e refused)
-
--- then heavy steps
-pub spread-heavy : (pieces : List Piece) (steps : ℕ) (e : DemandFault) (judged : ⊤) → per_item no_piece pieces (range_faults_at steps) ≡ [] → Err e ≡ unless (per_item 0 (rates_of pieces steps) heavy_faults_of) judged → Gives (Err e) (spread pieces steps)
-unfolding spread faults_of
-spread-heavy pieces steps e judged fine refused =
-    let heavy : Err e ≡ unless (join_below steps (heavy_faults_at pieces)) judged = rw (← heavy_faults-same pieces steps) refused in
-    gives_refused e _ (unless_begins (join_below steps (heavy_faults_at pieces)) (rates_of pieces steps) e (unless_refused _ judged e heavy) ∙ sym (unless_right (per_item no_piece pieces (range_faults_at steps)) (join_below steps (heavy_faults_at pieces)) (rates_of pieces steps) fine))
-
--- and where there is neither, the demand
-pub spread-fine : (pieces : List Piece) (steps : ℕ) → per_item no_piece pieces (range_faults_at steps) ≡ [] → per_item 0 (rates_of pieces steps) heavy_faults_of ≡ [] → spread pieces steps ≡ Ok (rates_of pieces steps)
-unfolding spread faults_of
-spread-fine pieces steps fine light =
-    let heavy : join_below steps (heavy_faults_at pieces) ≡ [] = rw (← heavy_faults-same pieces steps) light in
-    rw (fine, heavy)
+-- what the spreading of pieces needs: pieces without a fault end within the horizon, and there is one number a step
+pub ruleset spreading = (all_within, length-rates_of)

@@ -1,2 +1,2 @@
 pub mod Spread
-pub mod Within
+pub mod inner

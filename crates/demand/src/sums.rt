@@ -1,26 +1,28 @@
 //! The sum of pieces in each step.
 
 ghost use Rattle.std.specs.Prelude.{◌≡◌, ◌+◌, ◌<◌, ◌≤◌, if◌then◌else◌, length, replicate, slice_index, All, EachIndex, IfOk};
-ghost use Rattle.demand.specs.Spread.{Gives, holds, rates_of, spread};
-ghost use Rattle.demand.specs.Within.{IsLight, IsWithin};
+ghost use Rattle.demand.specs.Spread.{holds, rates_of, spread};
+ghost use Rattle.demand.specs.inner.Within.{IsLight, IsWithin};
+ghost use Rattle.refusals.specs.Memory.{OrMemory};
 
 use crate::fault::DemandFault;
-use crate::judge::{heavy_faults, range_faults};
+use crate::judge::{heavy, range};
 use crate::piece::Piece;
 use ct_base::{Listed, Units};
 use std::alloc::{AllocError, Global};
 
 /// What arrives at the end of each step, the rates of all pieces that hold it added up, or the first fault.
 /// The work is that of all steps of all pieces, and of the horizon's steps.
+#[tactic(auto, using(crate::proofs::DemandLaws::spreading), unfolding(crate::specs::Spread::spread, crate::specs::Spread::faults_of))]
 pub fn spread(alloc: Global, pieces: &[Piece], steps: u32) -> Result<Units, DemandFault>
     requires few { length pieces.now ≤ 480 }
     requires rates { All (λ piece. piece.rate ≤ 1000) pieces.now }
     requires steps { steps ≤ 240 }
-    ensures { Gives result (spread pieces.now steps) }
+    ensures { OrMemory DemandFault.Memory (spread pieces.now steps) result }
 {
-    range_faults(pieces, steps)?;
+    range(pieces, steps)?;
     let rates = sum_of(alloc, pieces, steps as usize)?;
-    heavy_faults(rates.as_slice())?;
+    heavy(rates.as_slice())?;
     Ok(Listed::of(rates))
 }
 

@@ -124,3 +124,16 @@ fn pieces_are_summed_or_the_first_fault_is_told(rt: HostRuntime) -> Result<(), F
     }
     Ok(())
 }
+
+#[test]
+fn a_fault_is_shown_by_a_sentence(rt: HostRuntime) -> Result<(), Fail> {
+    let alloc = rt.alloc();
+    let range = format!(in alloc; "{}", DemandFault::Range { piece: 3 })?;
+    assert_eq!(rt;
+        range.as_str(),
+        "piece 3 of demand holds no step or ends past the horizon"
+    );
+    let heavy = format!(in alloc; "{}", DemandFault::Heavy { step: 17 })?;
+    assert_eq!(rt; heavy.as_str(), "more than 1000 units arrive in step 17");
+    Ok(())
+}

@@ -9,7 +9,7 @@ use Rattle.toml.specs.Data.{Data, array, as_table, table, Items, no_items, item,
 use Rattle.toml.specs.View.{items_view, view}
 use Rattle.toml.specs.declared.value.Value.{Value}
 use Rattle.network_file.specs.Documents.{array_of, each_item, number_of, numbers_at, tables_among, text_of, texts_at}
-use Rattle.network_file.specs.Tables.{items_at, items_in}
+use Rattle.network_file.specs.inner.Tables.{items_at, items_in}
 
 -- what f makes of an array is what it makes of its items
 array_of-items : {X : Type 0} (f : Data → X) (d : Data) → array_of f d ≡ each_item f (items_in d)

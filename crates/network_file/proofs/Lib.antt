@@ -8,5 +8,6 @@ mod Pieces
 mod PlaceLaws
 mod RangeLaws
 mod RawNetwork
+pub mod SpelledRange
 mod TableWalks
 mod ValueLaws

@@ -1,29 +1,26 @@
 -- Names that stand twice: table by table, and as the lists of faults that definitions give.
-use Rattle.std.proofs.Common.{◌≡◌, ℕ, ◌+◌, ◌<◌, Bool, ◌||◌, List, [], ◌∷◌, ◌++◌, length, drop, take, get_or, codes, Result, Ok, Err, refl, ap, sym, ◌∙◌, append_assoc, add-one}
+use Rattle.std.proofs.Common.{◌≡◌, ℕ, ◌+◌, ◌<◌, Bool, ◌||◌, List, [], ◌∷◌, ◌++◌, length, drop, take, get_or, codes, Result, Ok, Err, refl, ap, sym, ◌∙◌, append_assoc, arith}
 use Rattle.std.specs.Prelude.{⊤}
 use Rattle.std.specs.List.{list_any}
 use Rattle.std.specs.Option.{option_map_or}
 use Rattle.std.specs.Str.{bytes_eq}
-use Rattle.std.proofs.lemmas.List.{append-nil, get_or-map, length-map, take-map, take_more}
-use Rattle.toml.specs.Data.{Data, string, integer, float, boolean, datetime, array, table, as_table, Items, no_items, item, Members, no_members}
+use Rattle.std.proofs.lemmas.List.{append-nil, length-append, take-map, take_at, take_more}
+use Rattle.toml.specs.Data.{Data, string, integer, float, boolean, datetime, array, table, as_table, Items, no_items, item, Members}
 use Rattle.toml.specs.View.{items_view, view}
 use Rattle.toml.specs.declared.value.Value.{Value}
 use Rattle.toml.proofs.Views.{items_view-drop}
-use Rattle.refusals.specs.Faults.{join_below, per_item, unless}
-use Rattle.refusals.proofs.FirstFaults.{unless_left, unless_right, unless_fine, unless_made}
-use Rattle.refusals.proofs.JoinLaws.{join_below-cons, join_below-same, join_below-zero}
+use Rattle.refusals.specs.Faults.{items_from, per_item, unless}
+use Rattle.refusals.proofs.FirstFaults.{unless_fine, unless_left, unless_made, unless_right}
+use Rattle.refusals.proofs.Items.{items_from-map, items_from-same}
 use Rattle.network_file.specs.Documents.{tables_among, tables_at, text_at}
-use Rattle.network_file.specs.Refusals.{number, names_of, name_faults, name_faults_at, signal_name_faults}
-use Rattle.network_file.specs.SameNames.{has_name, name_after, same_names, signal_after}
-use Rattle.network_file.specs.Tables.{each_after, if_table, next_number}
+use Rattle.network_file.specs.Refusals.{number, names_of, name_at, name_faults, signal_name_faults}
+use Rattle.network_file.specs.inner.SameNames.{has_name, name_after, same_names, signal_after}
+use Rattle.network_file.specs.inner.Tables.{each_after, if_table, next_number}
 use Rattle.network_file.specs.declared.fault.At.{At}
 use Rattle.network_file.specs.declared.fault.At.TheVariants.{Link, Signal, Phase}
 use Rattle.network_file.specs.declared.fault.NetFault.{NetFault}
-use Rattle.network_file.specs.declared.names.Named.TheVariants.{Links}
-use Rattle.network_file.proofs.TableWalks.{tables_at-items, number-more, plus_none, none_plus, plus_next, get_or-next}
-
-take-next : (ms : Members) (rest : List Members) (j : ℕ) → take (j + 1) (ms ∷ rest) ≡ ms ∷ take j rest
-take-next ms rest j = rw add-one
+use Rattle.network_file.specs.declared.judge.names.Named.TheVariants.{Links}
+use Rattle.network_file.proofs.TableWalks.{number-more, tables_at-items}
 
 -- a name is found among those of the tables as among the values
 named_step : (name : List ℕ) (d : Data) (ds : Items) (others : Bool) → list_any (bytes_eq name) (names_of (tables_among ds)) ≡ others → list_any (bytes_eq name) (names_of (tables_among (item d ds))) ≡ (has_name name d || others)
@@ -96,35 +93,31 @@ value_passed whole k next f values i value within at so_far fine =
     let made = unless_made (faults_here k f values i value) (next_number k (view value)) next fine in
     rw made.1 (rw (left_drop k f values i value within at, made.0) at so_far)
 
-pub ruleset steps = (unless_left)
-
 pub ruleset parts = (tables_at-items, unless_left, unless_right, unless_fine)
 
--- names, table by table, as a join
-after_joined : {X : Type 0} (i : ℕ) (f : ℕ → List Members → Members → List X) (earlier tables : List Members)
-    → join_below (length tables) (λ j. f (number (i + j)) (earlier ++ take j tables) (get_or tables j no_members)) ≡ each_after (number i) f earlier tables
-after_joined i f earlier [] = join_below-zero (λ j. f (number (i + j)) (earlier ++ take j []) no_members)
-after_joined {X} i f earlier (ms ∷ rest) =
-    let rows : ℕ → List X = λ j. f (number (i + j)) (earlier ++ take j (ms ∷ rest)) (get_or (ms ∷ rest) j no_members) in
-    let first : rows 0 ≡ f (number i) earlier ms = rw (plus_none i, append-nil earlier) in
-    let others : join_below (length rest) (λ j. rows (j + 1)) ≡ each_after (number (i + 1)) f (earlier ++ ms ∷ []) rest =
-    join_below-same (length rest) (λ j. rows (j + 1)) (λ j. f (number ((i + 1) + j)) ((earlier ++ ms ∷ []) ++ take j rest) (get_or rest j no_members)) (λ j within. rw (plus_next i j, get_or-next ms rest j, take-next ms rest j, append_assoc earlier (ms ∷ []) (take j rest)))
-    ∙ after_joined (i + 1) f (earlier ++ ms ∷ []) rest in
-    rw (← add-one (length rest)) (join_below-cons (length rest) rows ∙ rw (first, others, number-more i))
+-- what is said of each table by those before it, by their numbers and table by table
+after_from : {X : Type 0} (f : ℕ → List Members → Members → List X) (i : ℕ) (earlier rest : List Members) → length earlier ≡ i
+    → items_from i rest (λ j ms. f (number j) (take j (earlier ++ rest)) ms) ≡ each_after (number i) f earlier rest
+after_from f i earlier [] long = refl
+after_from f i earlier (ms ∷ rest) long =
+    let before : take i (earlier ++ ms ∷ rest) ≡ earlier = take_at earlier (ms ∷ rest) i long in
+    let after : items_from (i + 1) rest (λ j here. f (number j) (take j ((earlier ++ ms ∷ []) ++ rest)) here) ≡ each_after (number (i + 1)) f (earlier ++ ms ∷ []) rest =
+    after_from f (i + 1) (earlier ++ ms ∷ []) rest (length-append earlier (ms ∷ []) ∙ (omega arith)) in
+    let joined : earlier ++ ms ∷ rest ≡ (earlier ++ ms ∷ []) ++ rest = sym (append_assoc earlier (ms ∷ []) rest) in
+    rw (before, number-more i)
+    (ap (λ fs. f (number i) earlier ms ++ fs)
+    (ap (λ (all : List Members). items_from (i + 1) rest (λ j here. f (number j) (take j all) here)) joined ∙ after))
 
 -- the same from the first table on
-pub each_joined : {X : Type 0} (f : ℕ → List Members → Members → List X) (tables : List Members) → join_below (length tables) (λ j. f (number j) (take j tables) (get_or tables j no_members)) ≡ each_after 0 f [] tables
-each_joined f tables =
-    join_below-same (length tables) (λ j. f (number j) (take j tables) (get_or tables j no_members)) (λ j. f (number (0 + j)) ([] ++ take j tables) (get_or tables j no_members)) (λ j within. ap (λ n. f (number n) (take j tables) (get_or tables j no_members)) (none_plus j))
-    ∙ after_joined 0 f [] tables
+each_joined : {X : Type 0} (f : ℕ → List Members → Members → List X) (tables : List Members) → per_item tables (λ j ms. f (number j) (take j tables) ms) ≡ each_after 0 f [] tables
+each_joined f tables = after_from f 0 [] tables refl
 
 -- the names of tables, by their numbers
-names_joined : (at : ℕ → At) (tables : List Members) → per_item [] (names_of tables) (name_faults_at (names_of tables) (λ j. at (number j))) ≡ each_after 0 (name_after at) [] tables
+names_joined : (at : ℕ → At) (tables : List Members) → per_item (names_of tables) (name_at (names_of tables) (λ j. at (number j))) ≡ each_after 0 (name_after at) [] tables
 names_joined at tables =
-    rw (length-map tables (text_at (codes "name")))
-    (join_below-same (length tables) (λ j. name_faults_at (names_of tables) (λ j. at (number j)) j (get_or (names_of tables) j [])) (λ j. name_after at (number j) (take j tables) (get_or tables j no_members))
-    (λ j within. rw (get_or-map (text_at (codes "name")) tables j no_members [] within, take-map (text_at (codes "name")) j tables))
-    ∙ each_joined (name_after at) tables)
+    items_from-map 0 tables (text_at (codes "name")) (name_at (names_of tables) (λ j. at (number j)))
+    ∙ items_from-same 0 tables (λ j ms. name_at (names_of tables) (λ j. at (number j)) j (text_at (codes "name") ms)) (λ j ms. name_after at (number j) (take j tables) ms) (λ j ms. rw (take-map (text_at (codes "name")) j tables))
+    ∙ each_joined (name_after at) tables
 
 -- a signal and its phases
 signal_joined : (signals : List Members) (s : ℕ) (signal : Members) → signal_name_faults signals s signal ≡ signal_after (number s) (take s signals) signal
@@ -136,8 +129,6 @@ pub all_names : (top : Members) → name_faults top ≡ same_names Links (tables
 unfolding name_faults
 all_names top =
     let signals = tables_at (codes "signal") top in
-    rw (names_joined Link (tables_at (codes "link") top))
-    (ap (λ fs. same_names Links (tables_at (codes "link") top) ++ fs)
-    (join_below-same (length signals) (λ j. signal_name_faults signals j (get_or signals j no_members)) (λ j. signal_after (number j) (take j signals) (get_or signals j no_members)) (λ j within. signal_joined signals j (get_or signals j no_members)) ∙ each_joined signal_after signals))
+    rw (names_joined Link (tables_at (codes "link") top), items_from-same 0 signals (signal_name_faults signals) (λ s signal. signal_after (number s) (take s signals) signal) (signal_joined signals), each_joined signal_after signals)
 
 pub ruleset whole = (all_names, tables_at-items, unless_left, unless_right, unless_fine)

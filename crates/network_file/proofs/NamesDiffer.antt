@@ -7,9 +7,10 @@ use Rattle.std.proofs.lemmas.Slice.Eq.{bytes_eq-Decides}
 use Rattle.std.proofs.lemmas.List.Elements.{All-from_get_or}
 use Rattle.std.proofs.lemmas.List.Folds.{list_any_none}
 use Rattle.refusals.specs.Faults.{per_item}
-use Rattle.refusals.proofs.JoinLaws.{join_none, where_none}
+use Rattle.refusals.proofs.Items.{per_item_none}
+use Rattle.refusals.proofs.FirstFaults.{where_none}
 use Rattle.network_file.specs.Range.{all_differ}
-use Rattle.network_file.specs.Refusals.{name_faults_at}
+use Rattle.network_file.specs.Refusals.{name_at}
 use Rattle.network_file.specs.declared.fault.At.{At}
 use Rattle.network_file.specs.declared.fault.NetFault.TheVariants as fault
 
@@ -41,6 +42,6 @@ differ (name ∷ names) new =
     same_bytes-sym (get_or names i []) name (neither (bytes_eq (get_or names i []) name) (list_any (bytes_eq (get_or names i [])) (take i names)) (new_next name names i new within)).0)) in
     rw apart (differ names (λ i within. (neither (bytes_eq (get_or names i []) name) (list_any (bytes_eq (get_or names i [])) (take i names)) (new_next name names i new within)).1))
 
-pub names_differ : (names : List (List ℕ)) (at : ℕ → At) → per_item [] names (name_faults_at names at) ≡ [] → all_differ names ≡ true
+pub names_differ : (names : List (List ℕ)) (at : ℕ → At) → per_item names (name_at names at) ≡ [] → all_differ names ≡ true
 names_differ names at none =
-    differ names (λ i within. where_none (list_any (bytes_eq (get_or names i [])) (take i names)) (fault.Name (at i)) (join_none (length names) (λ i. name_faults_at names at i (get_or names i [])) i none within))
+    differ names (λ i within. where_none (list_any (bytes_eq (get_or names i [])) (take i names)) (fault.Name (at i)) (per_item_none names (name_at names at) i [] none within))

@@ -4,20 +4,26 @@ use Rattle.std.specs.List.{All}
 use Rattle.std.proofs.lemmas.List.Elements.{All-nil, All-cons}
 use Rattle.toml.specs.Data.{Members}
 use Rattle.refusals.specs.Faults.{where_so}
-use Rattle.refusals.proofs.JoinLaws.{append_none, join_none, where_none}
-use Rattle.network_file.specs.Documents.{tables_at}
-use Rattle.network_file.specs.Keys.{Key, top_keys, link_keys, turn_keys, piece_keys, signal_keys, phase_keys}
-use Rattle.network_file.specs.Refusals.{has_only, is_broken, is_out_of_range, key_faults, key_faults_at, no_key, number, place, range_faults, range_faults_at}
-use Rattle.network_file.specs.Stages.{broken_at, faults_at, inner_at, inner_faults, inner_faults_at, inner_key, inner_keys, link_faults, out_of_range_at, signal_faults}
-use Rattle.network_file.specs.Tables.{each_from}
+use Rattle.listed.proofs.JoinLaws.{append_none}
+use Rattle.refusals.proofs.FirstFaults.{where_none}
+use Rattle.refusals.proofs.Items.{per_item_none}
+use Rattle.network_file.specs.Documents.{is_whole, tables_at}
+use Rattle.network_file.specs.Keys.{Key, any, key, needed, top_keys, link_keys, turn_keys, piece_keys, signal_keys, phase_keys}
+use Rattle.network_file.specs.Refusals.{has_only, is_broken, is_out_of_range, key_at, key_faults, key_faults_at, number, place, range_at, range_faults, range_faults_at}
+use Rattle.network_file.specs.inner.Stages.{faults_at, inner_at, inner_faults, inner_faults_at, inner_key, inner_keys, link_faults, signal_faults}
+use Rattle.network_file.specs.inner.Tables.{each_from}
 use Rattle.network_file.specs.declared.fault.At.{At}
 use Rattle.network_file.specs.declared.fault.At.TheVariants.{Top, Link, Signal}
 use Rattle.network_file.specs.declared.fault.NetFault.TheVariants as fault
-use Rattle.network_file.specs.declared.judge.Stage.TheVariants.{Keys, Ranges}
-use Rattle.network_file.specs.declared.walk.Inner.{Inner}
-use Rattle.network_file.specs.declared.walk.Inner.TheVariants.{Turns, Pieces, Phases}
+use Rattle.network_file.specs.declared.judge.table.Stage.TheVariants.{Keys, Ranges}
+use Rattle.network_file.specs.declared.judge.walk.Inner.{Inner}
+use Rattle.network_file.specs.declared.judge.walk.Inner.TheVariants.{Turns, Pieces, Phases}
 use Rattle.network_file.proofs.RawNetwork.{key_stage, range_stage}
 use Rattle.network_file.proofs.TableWalks.{walked_top}
+
+-- what stands for a key that is not there
+abbrev pub no_key : Key
+no_key = key [] needed is_whole any
 
 -- a table whose keys have no fault
 pub record IsFine (keys : List Key) (ms : Members) : Type 0 where
@@ -40,14 +46,15 @@ pub record IsFineTop (ms : Members) : Type 0 where
   pub signals : All IsFineSignal (tables_at (codes "signal") ms)
 
 -- no faults of a table
-fine : (at other : At) (keys : List Key) (ms : Members) → key_faults_at (place at keys ms) ≡ [] → range_faults_at (place other keys ms) ≡ [] → IsFine keys ms
+fine : (at other : At) (keys : List Key) (ms : Members) → faults_at Keys (place at keys ms) ≡ [] → faults_at Ranges (place other keys ms) ≡ [] → IsFine keys ms
+unfolding faults_at key_faults_at range_faults_at
 fine at other keys ms no_keys no_ranges =
     let named : List _ = where_so (not (has_only (map (λ (key : Key). key.name) keys) ms)) (fault.Key at 0) in
     record {
       types = λ j within.
-          where_none (is_broken ms (get_or keys j no_key)) (fault.Key at (j + 1)) (join_none (length keys) (λ j. broken_at (place at keys ms) j (get_or keys j no_key)) j (append_none _ named no_keys).0 within);
+          where_none (is_broken ms (get_or keys j no_key)) (fault.Key at (j + 1)) (per_item_none keys (key_at at ms) j no_key (append_none _ named no_keys).0 within);
       ranges = λ j within.
-          where_none (is_out_of_range ms (get_or keys j no_key)) (fault.Range other (j + 1)) (join_none (length keys) (λ j. out_of_range_at (place other keys ms) j (get_or keys j no_key)) j no_ranges within);
+          where_none (is_out_of_range ms (get_or keys j no_key)) (fault.Range other (j + 1)) (per_item_none keys (range_at other ms) j no_key no_ranges within);
     }
 
 -- no faults of each table

@@ -1,23 +1,25 @@
 -- Every network without faults is in range.
-use Rattle.std.proofs.Common.{◌≡◌, ◌≢◌, ℕ, ◌+◌, ◌<◌, ◌≤◌, List, [], ◌∷◌, ◌++◌, length, get_or, map, codes, Option, Some, None, Ok, refl, ap, arith}
-use Rattle.std.specs.Prelude.{IfSome}
+use Rattle.std.proofs.Common.{◌≡◌, ◌≢◌, ℕ, ◌+◌, ◌<◌, ◌≤◌, List, [], ◌∷◌, ◌++◌, length, get_or, map, codes, Option, Some, None, Ok, refl, ap, subst, sym, ◌∙◌, arith}
+use Rattle.std.specs.Prelude.{⊤, IfSome}
 use Rattle.std.specs.List.{All}
-use Rattle.std.proofs.lemmas.List.{get_or-map, length-append, length-map}
+use Rattle.std.proofs.lemmas.List.{length-append, length-map}
 use Rattle.std.proofs.lemmas.List.Elements.{All-nil, All-cons, All-head, All-tail, All-append, All-map, All-weaker, All-from_get_or}
 use Rattle.toml.specs.Data.{Members, no_members, get_member}
 use Rattle.refusals.specs.Faults.{per_item, unless}
 use Rattle.refusals.proofs.FirstFaults.{unless_fine}
-use Rattle.refusals.proofs.JoinLaws.{append_none, join_none, join_of_none}
+use Rattle.refusals.proofs.Items.{items_from-first, items_from-map, per_item_none}
+use Rattle.listed.proofs.JoinLaws.{append_none}
 use Rattle.ct_base.specs.Validity.{IsBetween}
 use Rattle.network_file.specs.Documents.{numbers_at, tables_at, text_at}
-use Rattle.network_file.specs.Judged.{HasFewRates}
+use Rattle.network_file.specs.inner.Judged.{HasFewRates}
 use Rattle.network_file.specs.Keys.{phase_keys, piece_keys, turn_keys}
 use Rattle.network_file.specs.Range.{IsInRange, IsLinkInRange, IsPhaseInRange, IsPieceInRange, IsSignalInRange}
-use Rattle.network_file.specs.Refusals.{faults_of, key_faults, link_name_faults, name_faults, name_faults_at, names_of, number, phase_name_faults, range_faults, signal_name_faults}
+use Rattle.network_file.specs.Refusals.{faults_of, key_faults, link_name_faults, name_at, name_faults, names_of, number, phase_name_faults, range_faults, signal_name_faults}
 use Rattle.network_file.specs.Spelled.{link_of, network_of, phase_of, piece_of, pieces_from, signal_of, turn_of}
-use Rattle.network_file.specs.declared.fault.At.{At}
 use Rattle.network_file.specs.declared.fault.At.TheVariants.{Link, Phase, Signal}
+use Rattle.network_file.specs.declared.fault.NetFault.{NetFault}
 use Rattle.network_file.specs.declared.raw.RawLink.{RawLink}
+use Rattle.network_file.specs.declared.raw.RawNet.{RawNet}
 use Rattle.network_file.specs.declared.raw.RawPhase.{RawPhase}
 use Rattle.network_file.specs.declared.raw.RawSignal.{RawSignal}
 use Rattle.network_file.proofs.NamesDiffer.{names_differ}
@@ -134,25 +136,22 @@ signal_in_range s ms is none =
 
 -- the faults of signal names
 abbrev NoSignalNames : List Members → Type 0
-NoSignalNames signals = per_item no_members signals (signal_name_faults signals) ≡ []
+NoSignalNames signals = per_item signals (signal_name_faults signals) ≡ []
 
 signal_names_at : (signals : List Members) (s : ℕ) → NoSignalNames signals → s < length signals → signal_name_faults signals s (get_or signals s no_members) ≡ []
-signal_names_at signals s none within = join_none (length signals) (λ s. signal_name_faults signals s (get_or signals s no_members)) s none within
+signal_names_at signals s none within = per_item_none signals (signal_name_faults signals) s no_members none within
 
 -- the names of signals among each other
-own_names : (signals : List Members) → NoSignalNames signals → per_item [] (names_of signals) (name_faults_at (names_of signals) (λ k. Signal (number k))) ≡ []
+own_names : (signals : List Members) → NoSignalNames signals → per_item (names_of signals) (name_at (names_of signals) (λ k. Signal (number k))) ≡ []
 own_names signals none =
-    let names = names_of signals in
-    let at : ℕ → At = λ k. Signal (number k) in
-    join_of_none (length names) (λ s. name_faults_at names at s (get_or names s [])) (λ s within.
-    let in_signals : s < length signals = rw (← length-map signals (text_at (codes "name"))) within in
-    let none_here = append_none (name_faults_at names at s (text_at (codes "name") (get_or signals s no_members))) (phase_name_faults s (names_of (tables_at (codes "phase") (get_or signals s no_members)))) (signal_names_at signals s none in_signals) in
-    rw (get_or-map (text_at (codes "name")) signals s no_members [] in_signals) none_here.0)
+    let own : ℕ → List ℕ → List NetFault = name_at (names_of signals) (λ k. Signal (number k)) in
+    items_from-map 0 signals (text_at (codes "name")) own
+    ∙ items_from-first 0 signals (λ s signal. own s (text_at (codes "name") signal)) (λ s signal. phase_name_faults s (names_of (tables_at (codes "phase") signal))) none
 
 -- what no name faults mean for links, and for signals
 name_parts : (top : Members) → name_faults top ≡ [] → (link_name_faults (names_of (tables_at (codes "link") top)) ≡ []) × NoSignalNames (tables_at (codes "signal") top)
 unfolding name_faults
-name_parts top none = append_none (link_name_faults (names_of (tables_at (codes "link") top))) (per_item no_members (tables_at (codes "signal") top) (signal_name_faults (tables_at (codes "signal") top))) none
+name_parts top none = append_none (link_name_faults (names_of (tables_at (codes "link") top))) (per_item (tables_at (codes "signal") top) (signal_name_faults (tables_at (codes "signal") top))) none
 
 -- the three stages
 stages : (top : Members) → faults_of top ≡ [] → (key_faults top ≡ []) × ((range_faults top ≡ []) × (name_faults top ≡ []))
@@ -177,7 +176,7 @@ network_in_range top judged =
       each_signal = All-map IsSignalInRange signal_of signals (All-from_get_or (λ ms. IsSignalInRange (signal_of ms)) signals no_members (λ s within.
           let signal = get_or signals s no_members in
           signal_in_range s signal (is.signals s no_members within)
-          (append_none (name_faults_at (names_of signals) (λ k. Signal (number k)) s (text_at (codes "name") signal)) (phase_name_faults s (names_of (tables_at (codes "phase") signal))) (signal_names_at signals s names.1 within)).1));
+          (append_none (name_at (names_of signals) (λ k. Signal (number k)) s (text_at (codes "name") signal)) (phase_name_faults s (names_of (tables_at (codes "phase") signal))) (signal_names_at signals s names.1 within)).1));
       links_differ = rw (link_names links) (names_differ (names_of links) (λ k. Link (number k)) names.0);
       signals_differ = rw (signal_names signals) (names_differ (names_of signals) (λ k. Signal (number k)) (own_names signals names.1));
     }
@@ -187,3 +186,9 @@ pub rates_judged : (top : Members) → Ok (tt {0}) ≡ unless (faults_of top) (t
 rates_judged top judged =
     let none = stages top (unless_fine (faults_of top) (tt {0}) (tt {0}) judged) in
     All-weaker IsFineLink HasFewRates (λ ms is. (rates_few ms is).0) (tables_at (codes "link") top) (top_fine top none.0 none.1.0).links
+
+-- what was judged and read
+pub read_in_range : (top : Members) (net : RawNet) (fine : ⊤) → net ≡ network_of top → Ok fine ≡ unless (faults_of top) fine → IsInRange net
+read_in_range top net fine is judged = subst IsInRange (sym is) (network_in_range top judged)
+
+pub ruleset judged = (read_in_range, rates_judged)

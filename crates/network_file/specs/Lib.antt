@@ -1,10 +1,6 @@
 pub mod Documents
-pub mod Judged
-pub mod KeyTables
 pub mod Keys
 pub mod Range
 pub mod Refusals
-pub mod SameNames
 pub mod Spelled
-pub mod Stages
-pub mod Tables
+pub mod inner

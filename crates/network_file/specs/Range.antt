@@ -1,19 +1,13 @@
 -- What every network that is read keeps (docs/network-file.md, "Ranges").
-use Rattle.std.specs.Prelude.{◌≡◌, ◌≢◌, ℕ, ◌≤◌, Bool, true, not, ◌&&◌, List, [], ◌∷◌, length, map, None, IsSome, IfSome, All}
-use Rattle.std.specs.List.{list_any}
-use Rattle.std.specs.Str.{bytes_eq}
+use Rattle.std.specs.Prelude.{◌≡◌, ◌≢◌, ℕ, ◌≤◌, true, List, [], length, map, None, IsSome, IfSome, All}
 use Rattle.ct_base.specs.Validity.{IsBetween}
 use Rattle.texts.specs.Names.{is_name}
+pub use Rattle.texts.specs.Names.{all_differ}
 use Rattle.network_file.specs.declared.raw.RawNet.{RawNet}
 use Rattle.network_file.specs.declared.raw.RawLink.{RawLink}
 use Rattle.network_file.specs.declared.raw.RawSignal.{RawSignal}
 use Rattle.network_file.specs.declared.raw.RawPhase.{RawPhase}
 use Rattle.demand.specs.declared.piece.Piece.{Piece}
-
--- no text stands twice
-abbrev pub all_differ : List (List ℕ) → Bool
-all_differ [] = true
-all_differ (text ∷ texts) = not (list_any (bytes_eq text) texts) && all_differ texts
 
 -- a piece of demand has its numbers in range
 pub record IsPieceInRange (piece : Piece) : Type 0 where

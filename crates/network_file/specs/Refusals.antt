@@ -7,8 +7,7 @@ use Rattle.std.specs.Str.{bytes_eq}
 use Rattle.toml.specs.Data.{Data, Members, no_members, member, get_member}
 use Rattle.refusals.specs.Faults.{per_item, where_so}
 use Rattle.network_file.specs.Documents.{tables_at, text_at}
-use Rattle.network_file.specs.Documents.{is_whole}
-use Rattle.network_file.specs.Keys.{Key, key, needed, any, whole, top_keys, link_keys, turn_keys, piece_keys, signal_keys, phase_keys}
+use Rattle.network_file.specs.Keys.{Key, whole, top_keys, link_keys, turn_keys, piece_keys, signal_keys, phase_keys}
 use Rattle.network_file.specs.declared.fault.At.{At}
 use Rattle.network_file.specs.declared.fault.At.TheVariants.{Top, Link, Turn, Piece, Signal, Phase}
 use Rattle.network_file.specs.declared.fault.NetFault.{NetFault}
@@ -40,7 +39,7 @@ piece_places k j piece = place (Piece (number k) (number j)) piece_keys piece �
 abbrev pub link_places : ℕ → Members → List Place
 link_places k link =
     place (Link (number k)) link_keys link
-    ∷ (per_item no_members (tables_at (codes "turns") link) (turn_places k) ++ per_item no_members (tables_at (codes "demand") link) (piece_places k))
+    ∷ (per_item (tables_at (codes "turns") link) (turn_places k) ++ per_item (tables_at (codes "demand") link) (piece_places k))
 
 -- a signal, then its phases
 abbrev pub phase_places : ℕ → ℕ → Members → List Place
@@ -48,13 +47,13 @@ phase_places s p phase = place (Phase (number s) (number p)) phase_keys phase �
 
 -- the table of signal s, and then those of its phases
 abbrev pub signal_places : ℕ → Members → List Place
-signal_places s signal = place (Signal (number s)) signal_keys signal ∷ per_item no_members (tables_at (codes "phase") signal) (phase_places s)
+signal_places s signal = place (Signal (number s)) signal_keys signal ∷ per_item (tables_at (codes "phase") signal) (phase_places s)
 
 -- all tables: the top table, then each link, then each signal
 unfoldable pub walk : Members → List Place
 walk top =
     place Top top_keys top
-    ∷ (per_item no_members (tables_at (codes "link") top) link_places ++ per_item no_members (tables_at (codes "signal") top) signal_places)
+    ∷ (per_item (tables_at (codes "link") top) link_places ++ per_item (tables_at (codes "signal") top) signal_places)
 
 -- `format` stands and is the whole number 1
 abbrev pub has_format : Members → Bool
@@ -69,27 +68,31 @@ abbrev pub has_only : List (List ℕ) → Members → Bool
 has_only keys no_members = true
 has_only keys (member name d ms) = list_any (bytes_eq name) keys && has_only keys ms
 
--- what stands for a key that is not there
-abbrev pub no_key : Key
-no_key = key [] needed is_whole any
+-- key: a key of a table that is missing where it must stand, or whose value is of another type
+abbrev pub key_at : At → Members → ℕ → Key → List NetFault
+key_at at ms k key = where_so (is_broken ms key) (fault.Key at (k + 1))
 
 -- the key faults of a table: those of its keys in their order, and then that of unknown keys, which have number 0
-abbrev pub key_faults_at : Place → List NetFault
+unfoldable pub key_faults_at : Place → List NetFault
 key_faults_at place =
-    per_item no_key place.keys (λ k key. where_so (is_broken place.members key) (fault.Key place.at (k + 1)))
+    per_item place.keys (key_at place.at place.members)
     ++ where_so (not (has_only (map (λ (key : Key). key.name) place.keys) place.members)) (fault.Key place.at 0)
 
 -- the value of the key is out of its range
 abbrev pub is_out_of_range : Members → Key → Bool
 is_out_of_range ms key = option_map_or (λ (d : Data). not (key.is_in_range d)) (get_member key.name ms) false
 
--- the keys of a table whose values are out of range
-abbrev pub range_faults_at : Place → List NetFault
-range_faults_at place = per_item no_key place.keys (λ k key. where_so (is_out_of_range place.members key) (fault.Range place.at (k + 1)))
+-- range: a key of a table whose value is out of its range
+abbrev pub range_at : At → Members → ℕ → Key → List NetFault
+range_at at ms k key = where_so (is_out_of_range ms key) (fault.Range at (k + 1))
 
--- the names that an earlier one of the list is
-abbrev pub name_faults_at : List (List ℕ) → (ℕ → At) → ℕ → List ℕ → List NetFault
-name_faults_at names at i name = where_so (list_any (bytes_eq name) (take i names)) (fault.Name (at i))
+-- the keys of a table whose values are out of range
+unfoldable pub range_faults_at : Place → List NetFault
+range_faults_at place = per_item place.keys (range_at place.at place.members)
+
+-- name: a name of the list that an earlier one is
+abbrev pub name_at : List (List ℕ) → (ℕ → At) → ℕ → List ℕ → List NetFault
+name_at names at i name = where_so (list_any (bytes_eq name) (take i names)) (fault.Name (at i))
 
 -- the names of tables
 abbrev pub names_of : List Members → List (List ℕ)
@@ -97,16 +100,16 @@ names_of tables = map (text_at (codes "name")) tables
 
 -- links among each other; signals among each other, and the phases of each signal behind it
 abbrev pub link_name_faults : List (List ℕ) → List NetFault
-link_name_faults names = per_item [] names (name_faults_at names (λ k. Link (number k)))
+link_name_faults names = per_item names (name_at names (λ k. Link (number k)))
 
 -- the phases of signal s whose names an earlier one of it has
 abbrev pub phase_name_faults : ℕ → List (List ℕ) → List NetFault
-phase_name_faults s names = per_item [] names (name_faults_at names (λ p. Phase (number s) (number p)))
+phase_name_faults s names = per_item names (name_at names (λ p. Phase (number s) (number p)))
 
 -- signal s where an earlier one has its name, and then its phases
 abbrev pub signal_name_faults : List Members → ℕ → Members → List NetFault
 signal_name_faults signals s signal =
-    name_faults_at (names_of signals) (λ k. Signal (number k)) s (text_at (codes "name") signal)
+    name_at (names_of signals) (λ k. Signal (number k)) s (text_at (codes "name") signal)
     ++ phase_name_faults s (names_of (tables_at (codes "phase") signal))
 
 -- the three stages over the whole document
@@ -121,7 +124,7 @@ range_faults top = flat_map range_faults_at (walk top)
 unfoldable pub name_faults : Members → List NetFault
 name_faults top =
     link_name_faults (names_of (tables_at (codes "link") top))
-    ++ per_item no_members (tables_at (codes "signal") top) (signal_name_faults (tables_at (codes "signal") top))
+    ++ per_item (tables_at (codes "signal") top) (signal_name_faults (tables_at (codes "signal") top))
 
 -- the faults of a document: all of keys, then all of ranges, then all of names
 abbrev pub faults_of : Members → List NetFault

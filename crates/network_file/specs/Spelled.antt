@@ -1,6 +1,6 @@
 -- The network that the bytes of a file spell, or the first refusal (docs/network-file.md). A document is what `toml` reads, in
 -- the forms of TOML 1.1; the keys are this project's own.
-use Rattle.std.specs.Prelude.{◌≡◌, ℕ, ◌+◌, if◌then◌else◌, List, [], ◌∷◌, ◌++◌, map, Result, Ok, Err, codes, slice_index_or}
+use Rattle.std.specs.Prelude.{ℕ, ◌+◌, if◌then◌else◌, List, [], ◌∷◌, ◌++◌, map, Result, Err, codes, slice_index_or}
 use Rattle.std.specs.Option.{option_map_or}
 use Rattle.std.specs.Str.{is_utf8}
 use Rattle.toml.specs.Data.{Members}
@@ -14,7 +14,7 @@ use Rattle.network_file.specs.declared.raw.RawLink.{RawLink}
 use Rattle.network_file.specs.declared.raw.RawSignal.{RawSignal}
 use Rattle.network_file.specs.declared.raw.RawPhase.{RawPhase}
 use Rattle.network_file.specs.declared.fault.NetFault.{NetFault}
-use Rattle.network_file.specs.declared.fault.NetFault.TheVariants.{Toml, Format, Memory}
+use Rattle.network_file.specs.declared.fault.NetFault.TheVariants.{Toml, Format}
 
 -- one piece of demand for each rate: the first holds step 0, the next step 1
 abbrev pub pieces_from : ℕ → List ℕ → List Piece
@@ -83,9 +83,3 @@ spelled_by top = if has_format top then unless (faults_of top) (network_of top) 
 -- the network that a file spells, or the first refusal
 unfoldable pub raw_network : List ℕ → Result RawNet NetFault
 raw_network bytes = if is_utf8 bytes then option_map_or spelled_by (parse_document bytes) (Err Toml) else Err Toml
-
--- an answer is what is spelled; want of memory says nothing
-abbrev pub Gives : Result RawNet NetFault → Result RawNet NetFault → Type 0
-Gives (Err Memory) spelled = Unit {0}
-Gives (Ok raw) spelled = spelled ≡ Ok raw
-Gives (Err fault) spelled = spelled ≡ Err fault

@@ -4,7 +4,7 @@
 ghost use Rattle.std.specs.Prelude.{◌≡◌, IfOk, option_map, slice_index_or};
 ghost use Rattle.std.specs.List.{list_all};
 ghost use Rattle.network_file.specs.Documents.{each_item, is_array_of, is_table, is_text, is_whole, number_at, number_of, numbers_at, some_numbers_at, some_text_at, stands, text_at, text_of, texts_at};
-ghost use Rattle.network_file.specs.Tables.{items_at, items_in};
+ghost use Rattle.network_file.specs.inner.Tables.{items_at, items_in};
 ghost use Rattle.toml.specs.Data.{get_member};
 ghost use Rattle.toml.specs.View.{items_view, table_view, view};
 

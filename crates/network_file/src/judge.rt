@@ -1,142 +1,40 @@
-//! The faults of a single table: the first key that is missing or of another type, an unknown key, and the first value
-//! that is out of its range. Each is a walk over the keys that the table may have. Nothing is copied and no memory is
-//! taken.
+//! The first fault of a file, stage by stage: keys, then ranges, then names. Nothing is copied and no memory is taken.
 
-ghost use Rattle.std.specs.Prelude.{◌≡◌, ◌≤◌, length, map};
-ghost use Rattle.std.specs.List.{list_any};
-ghost use Rattle.std.specs.Str.{bytes_eq};
-ghost use Rattle.network_file.specs.KeyTables.{key_of, keys_of, need_of};
-ghost use Rattle.network_file.specs.Refusals.{has_only, is_broken, is_out_of_range, key_faults_at, no_key, place};
-ghost use Rattle.network_file.specs.Stages.{broken_at, faults_at, out_of_range_at};
-ghost use Rattle.refusals.specs.Faults.{per_item, unless, where_so};
+ghost use Rattle.std.specs.Prelude.{◌≡◌, ◌+◌};
+ghost use Rattle.network_file.specs.Refusals.{faults_of, number};
+ghost use Rattle.refusals.specs.Faults.{unless, where_so};
 ghost use Rattle.toml.specs.View.{table_view};
 
-use crate::document::{find, stands};
-use crate::fault::{At, NetFault};
-use crate::keys::{Key, Need};
-use crate::kinds::{has_type, is_within};
+mod names;
+mod table;
+mod walk;
+
+use crate::fault::NetFault;
+use crate::judge::names::judge_all_names;
+use crate::judge::table::Stage;
+use crate::judge::walk::judge_tables;
 use toml::Table;
 
-/// What a walk over all tables looks for.
-#[derive(Clone, Copy, Debug, PartialEq, Eq)]
-pub enum Stage {
-    /// Keys that are missing, of another type or unknown.
-    Keys,
-    /// Values that are out of range.
-    Ranges,
+/// Refuses the first fault of a key, or else of a range, or else of a name.
+#[tactic(auto, using(crate::proofs::RawNetwork::stages))]
+pub fn judge(top: &Table) -> Result<(), NetFault>
+    ensures { result ≡ unless (faults_of (table_view top.now)) tt }
+{
+    judge_tables(Stage::Keys, top)?;
+    judge_tables(Stage::Ranges, top)?;
+    judge_all_names(top)
 }
 
 /// Refuses with the fault where the test holds.
-pub fn refuse_where(holds: bool, fault: NetFault) -> Result<(), NetFault>
+fn refuse_where(holds: bool, fault: NetFault) -> Result<(), NetFault>
     ensures { result ≡ unless (where_so holds fault) tt }
 {
     if holds { Err(fault) } else { Ok(()) }
 }
 
-/// Whether the key must stand in the table.
-fn is_needed(table: &Table, need: Need) -> bool
-    ensures { result ≡ need_of need (table_view table.now) }
+/// The number after k, as 32 bits hold it.
+fn number_after(k: u32) -> u32
+    ensures { result ≡ number (k + 1) }
 {
-    match need {
-        Need::Needed => true,
-        Need::Optional => false,
-        Need::NeededWith(other) => stands(table, other),
-    }
-}
-
-/// Whether the key is missing where it must stand, or its value is of another type.
-fn is_broken(table: &Table, key: &Key) -> bool
-    ensures { result ≡ is_broken (table_view table.now) (key_of key.now) }
-{
-    match find(table, key.name) {
-        Some(value) => !has_type(value, key.kind),
-        None => is_needed(table, key.need),
-    }
-}
-
-/// Whether the key stands and its value is out of range.
-fn is_out_of_range(table: &Table, key: &Key) -> bool
-    ensures { result ≡ is_out_of_range (table_view table.now) (key_of key.now) }
-{
-    match find(table, key.name) {
-        Some(value) => !is_within(value, key.kind),
-        None => false,
-    }
-}
-
-/// Whether a text is the name of one of the keys.
-fn is_one_of(text: &str, keys: &[Key]) -> bool
-    ensures { result ≡ list_any (λ key. bytes_eq text.now key.name.now) keys.now }
-{
-    keys.iter().any(|key| text == key.name)
-}
-
-/// Whether each key of the table is one of these.
-#[tactic(auto, using(crate::proofs::KeyLists::has_only_by_keys))]
-fn has_only(table: &Table, keys: &[Key]) -> bool
-    ensures { result ≡ has_only (map (λ key. key.name) (keys_of keys.now)) (table_view table.now) }
-{
-    for name in table.keys() {
-        if !is_one_of(name.as_str(), keys) {
-            return false;
-        }
-    }
-    true
-}
-
-/// Refuses the first of the keys that is missing or of another type.
-#[tactic(auto, using(crate::proofs::KeyLists::places))]
-fn judge_types(at: At, keys: &[Key], table: &Table) -> Result<(), NetFault>
-    requires few { length keys.now ≤ 12 }
-    ensures { result ≡ unless (per_item no_key (keys_of keys.now) (broken_at (place at (keys_of keys.now) (table_view table.now)))) tt }
-{
-    for (k, key) in keys.iter().enumerate() {
-        refuse_where(
-            is_broken(table, key),
-            NetFault::Key {
-                table: at,
-                key: k as u8 + 1,
-            },
-        )?;
-    }
-    Ok(())
-}
-
-/// Refuses the first of the keys whose value is out of range.
-#[tactic(auto, using(crate::proofs::KeyLists::places))]
-fn judge_ranges(at: At, keys: &[Key], table: &Table) -> Result<(), NetFault>
-    requires few { length keys.now ≤ 12 }
-    ensures { result ≡ unless (per_item no_key (keys_of keys.now) (out_of_range_at (place at (keys_of keys.now) (table_view table.now)))) tt }
-{
-    for (k, key) in keys.iter().enumerate() {
-        refuse_where(
-            is_out_of_range(table, key),
-            NetFault::Range {
-                table: at,
-                key: k as u8 + 1,
-            },
-        )?;
-    }
-    Ok(())
-}
-
-/// Refuses the first key that is missing or of another type, and then an unknown one, as key 0.
-#[tactic(auto, using(crate::proofs::KeyLists::joined))]
-fn judge_keys(at: At, keys: &[Key], table: &Table) -> Result<(), NetFault>
-    requires few { length keys.now ≤ 12 }
-    ensures { result ≡ unless (key_faults_at (place at (keys_of keys.now) (table_view table.now))) tt }
-{
-    judge_types(at, keys, table)?;
-    refuse_where(!has_only(table, keys), NetFault::Key { table: at, key: 0 })
-}
-
-/// Refuses the table with the first fault of the stage.
-pub fn judge_table(stage: Stage, at: At, keys: &[Key], table: &Table) -> Result<(), NetFault>
-    requires few { length keys.now ≤ 12 }
-    ensures { result ≡ unless (faults_at stage (place at (keys_of keys.now) (table_view table.now))) tt }
-{
-    match stage {
-        Stage::Keys => judge_keys(at, keys, table),
-        Stage::Ranges => judge_ranges(at, keys, table),
-    }
+    k.saturating_add(1)
 }

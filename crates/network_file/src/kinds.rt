@@ -2,7 +2,7 @@
 
 ghost use Rattle.std.specs.Prelude.{◌≡◌};
 ghost use Rattle.std.specs.List.{list_all};
-ghost use Rattle.network_file.specs.KeyTables.{range_of, type_of};
+ghost use Rattle.network_file.specs.inner.KeyTables.{range_of, type_of};
 ghost use Rattle.network_file.specs.Keys.{count, name_shape, wave, whole, wholes};
 ghost use Rattle.toml.specs.Data.{array, integer, item, no_items};
 ghost use Rattle.toml.specs.View.{items_view, view};

@@ -8,15 +8,14 @@ mod judge;
 mod keys;
 mod kinds;
 mod link;
-mod names;
 mod raw;
 mod reader;
 mod signal;
 #[cfg(test)]
 mod tests;
-mod walk;
 
 pub use demand::Piece;
 pub use fault::{At, NetFault};
-pub use raw::{Name, RawLink, RawNet, RawPhase, RawSignal};
+pub use raw::{RawLink, RawNet, RawPhase, RawSignal};
 pub use reader::read;
+pub use texts::Name;

@@ -2,7 +2,7 @@
 
 ghost use Rattle.std.specs.Prelude.{◌≡◌, ◌≤◌, ◌++◌, length, map, codes, All, IfOk, OnOk};
 ghost use Rattle.network_file.specs.Documents.{each_item, number_of, numbers_at, tables_among, tables_at};
-ghost use Rattle.network_file.specs.Judged.{HasFewRates};
+ghost use Rattle.network_file.specs.inner.Judged.{HasFewRates};
 ghost use Rattle.network_file.specs.Spelled.{link_of, piece_of, pieces_from, turn_of};
 ghost use Rattle.toml.specs.View.{items_view, table_view};
 
@@ -10,10 +10,11 @@ use crate::document::{
     copy_text_at, item_number_at, items_at, number_at, number_of, some_numbers_at, some_text_at,
     texts_at,
 };
-use crate::raw::{Name, RawLink};
+use crate::raw::RawLink;
 use ct_base::{Listed, Memory};
 use demand::Piece;
 use std::alloc::Global;
+use texts::Name;
 use toml::{Table, Value};
 
 /// A branch, as its table spells it.

@@ -1,10 +1,8 @@
 //! A network as its file spells it: names are texts, and nothing is joined yet.
 
-use ct_base::{Duplicate, Listed, Memory, Text, Units};
+use ct_base::{Duplicate, Listed, Memory, Units};
 use demand::Piece;
-
-/// The name of a link, a signal or a phase.
-pub type Name = Text;
+use texts::Name;
 
 /// A network file's content.
 #[derive(Debug, Drop)]

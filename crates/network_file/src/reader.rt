@@ -2,22 +2,20 @@
 
 ghost use Rattle.std.specs.Prelude.{◌≡◌, All, IfOk, codes};
 ghost use Rattle.network_file.specs.Documents.{tables_at};
-ghost use Rattle.network_file.specs.Judged.{HasFewRates};
+ghost use Rattle.network_file.specs.inner.Judged.{HasFewRates};
 ghost use Rattle.network_file.specs.Range.{IsInRange};
-ghost use Rattle.network_file.specs.Refusals.{faults_of, has_format};
-ghost use Rattle.network_file.specs.Spelled.{Gives, network_of, raw_network, spelled_by};
-ghost use Rattle.refusals.specs.Faults.{unless};
+ghost use Rattle.network_file.specs.Refusals.{has_format};
+ghost use Rattle.network_file.specs.Spelled.{network_of, raw_network, spelled_by};
+ghost use Rattle.refusals.specs.Memory.{OrMemory};
 ghost use Rattle.toml.specs.View.{table_view};
 
 use crate::document::{find, items_at, number_at};
 use crate::fault::NetFault;
-use crate::judge::Stage;
+use crate::judge::judge;
 use crate::kinds::is_whole_within;
 use crate::link::links_of;
-use crate::names::judge_all_names;
 use crate::raw::RawNet;
 use crate::signal::signals_of;
-use crate::walk::judge_tables;
 use ct_base::Memory;
 use std::alloc::Global;
 use toml::Table;
@@ -31,7 +29,7 @@ const FORMAT: u32 = 1;
 /// Want of memory may come with any bytes, and says nothing of them.
 #[tactic(auto, using(crate::proofs::RawNetwork::raw_network_laws))]
 pub fn read(alloc: Global, bytes: &[u8]) -> Result<RawNet, NetFault>
-    ensures value { Gives result (raw_network bytes.now) }
+    ensures value { OrMemory NetFault.Memory (raw_network bytes.now) result }
     ensures in_range { IfOk result IsInRange }
 {
     match toml::table_from_slice(alloc, bytes) {
@@ -42,8 +40,9 @@ pub fn read(alloc: Global, bytes: &[u8]) -> Result<RawNet, NetFault>
 }
 
 /// The network that the top table of a document spells, or its first refusal. Nothing is read before all was judged.
+#[tactic(auto, using(crate::proofs::RangeLaws::judged), unfolding(crate::specs::Spelled::spelled_by))]
 fn spelled_by(alloc: Global, top: &Table) -> Result<RawNet, NetFault>
-    ensures value { Gives result (spelled_by (table_view top.now)) }
+    ensures value { OrMemory NetFault.Memory (spelled_by (table_view top.now)) result }
     ensures in_range { IfOk result IsInRange }
 {
     if !has_format(top) {
@@ -62,16 +61,6 @@ fn has_format(top: &Table) -> bool
         Some(value) => is_whole_within(value, FORMAT, FORMAT),
         None => false,
     }
-}
-
-/// Refuses the first fault of a key, or else of a range, or else of a name.
-#[tactic(auto, using(crate::proofs::RawNetwork::stages))]
-fn judge(top: &Table) -> Result<(), NetFault>
-    ensures { result ≡ unless (faults_of (table_view top.now)) tt }
-{
-    judge_tables(Stage::Keys, top)?;
-    judge_tables(Stage::Ranges, top)?;
-    judge_all_names(top)
 }
 
 /// The network, as the top table of a document spells it.

@@ -1,9 +1,8 @@
--- A walk that stops at the first fault: how an answer on a part is an answer on the whole.
-use Rattle.std.proofs.Common.{◌≡◌, ℕ, ◌+◌, ◌<◌, List, [], ◌∷◌, ◌++◌, length, get_or, Result, Ok, Err, refl}
-use Rattle.std.specs.Prelude.{⊤}
-use Rattle.std.proofs.lemmas.List.{get_or_read}
-use Rattle.refusals.specs.Faults.{join_below, per_item, unless}
-use Rattle.refusals.proofs.JoinLaws.{join_below-begins, join_below-more, join_below-suc, join_below-zero}
+-- A chain of rules that stops at the first fault: how an answer on a part is an answer on the whole.
+use Rattle.std.proofs.Common.{◌≡◌, ℕ, ◌<◌, Bool, true, false, List, [], ◌∷◌, ◌++◌, Ok, Err, refl}
+use Rattle.listed.specs.Below.{join_below}
+use Rattle.listed.proofs.JoinLaws.{join_below-begins}
+use Rattle.refusals.specs.Faults.{unless, where_so}
 
 -- no refusal: there is no fault
 pub unless_fine : {X E : Type 0} (faults : List E) (made other : X) → Ok other ≡ unless faults made → faults ≡ []
@@ -44,17 +43,7 @@ unless_place n k f x y e within before refused =
     let here : BeginsWith e (f k) = unless_refused (f k) x e refused in
     unless_begins (join_below n f) y e (join_below-begins n k f e here.0 within before here.1)
 
--- a refusal of an item, where the items before it have no fault
-pub unless_item : {X Y Z E : Type 0} (none : Z) (xs : List Z) (j : ℕ) (item : Z) (faults : ℕ → Z → List E) (x : X) (y : Y) (e : E) →
-    j < length xs → item ≡ get_or xs j item → join_below j (λ k. faults k (get_or xs k none)) ≡ [] → Err e ≡ unless (faults j item) x → Err e ≡ unless (per_item none xs faults) y
-unless_item none xs j item faults x y e within at before refused =
-    unless_place (length xs) j (λ k. faults k (get_or xs k none)) x y e within before (rw (← get_or_read xs j item within at none) refused)
-
--- one item more without a fault
-pub item_more : {X E : Type 0} (none : X) (xs : List X) (j : ℕ) (x : X) (faults : ℕ → X → List E) →
-    j < length xs → x ≡ get_or xs j x → join_below j (λ k. faults k (get_or xs k none)) ≡ [] → faults j x ≡ [] → join_below (j + 1) (λ k. faults k (get_or xs k none)) ≡ []
-item_more none xs j x faults within at before here =
-    join_below-more j (λ k. faults k (get_or xs k none)) before (rw (← get_or_read xs j x within at none) here)
-
--- no list, and one more without a fault
-pub ruleset places = (join_below-zero, join_below-more)
+-- a test that gives no fault does not hold
+pub where_none : {X : Type 0} (holds : Bool) (fault : X) → where_so holds fault ≡ [] → holds ≡ false
+where_none true fault none = absurd (cc)
+where_none false fault none = refl

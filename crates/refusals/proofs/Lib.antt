@@ -1,2 +1,3 @@
-pub mod JoinLaws
 pub mod FirstFaults
+pub mod Items
+pub mod Memory

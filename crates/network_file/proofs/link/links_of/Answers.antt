@@ -1,6 +1,6 @@
 use Rattle.std.proofs.Common.{arith}
 use Rattle.toml.specs.View.{table_view}
-use Rattle.network_file.specs.Judged.{HasFewRates}
+use Rattle.network_file.specs.inner.Judged.{HasFewRates}
 use Rattle.network_file.proofs.ItemLists.{table_among}
 use Rattle.network_file.proofs.link.links_of.Goals as goal
 

@@ -1,8 +1,0 @@
--- The values that are left decide.
-use Rattle.std.proofs.Common.{◌≡◌}
-use Rattle.network_file.specs.Stages.{signal_faults}
-use Rattle.network_file.proofs.TableWalks.{left}
-use Rattle.network_file.proofs.walk.judge_signals.Given as goal
-
-abbrev pub invariant-loop-value : goal.invariant-loop-value
-invariant-loop-value l = left l.s (signal_faults l.stage) l.values l.value-index ≡ left 0 (signal_faults l.stage) l.values 0

@@ -1,0 +1,5 @@
+pub mod Judged
+pub mod KeyTables
+pub mod SameNames
+pub mod Stages
+pub mod Tables
