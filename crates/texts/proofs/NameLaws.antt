@@ -1,10 +1,11 @@
 -- Laws of names: which bytes stand in one, and that no number is one.
 use Rattle.std.proofs.Common.{◌≡◌, ℕ, ◌<◌, ◌≤◌, Bool, true, false, List, [], ◌∷◌, length, refl, sym, ap, ◌∙◌, arith}
-use Rattle.std.specs.Prelude.{nat_le, ◌==◌, All}
+use Rattle.std.specs.Prelude.{nat_le, nat_lt, ◌==◌, All}
 use Rattle.std.specs.List.{list_all}
 use Rattle.std.proofs.lemmas.Bool.{and_from, and_left, and_parts, leb-true, lt-leb, ne_eqb, or_left, true≢false}
 use Rattle.std.proofs.lemmas.List.Elements.{All-weaker}
 use Rattle.std.proofs.lemmas.List.Sums.{AllPass-from_list_all}
+use Rattle.limits.specs.declared.TheConstants.{MAX_NAME_BYTES}
 use Rattle.texts.specs.Names.{is_name, is_name_character, is_small_letter}
 use Rattle.texts.specs.Numbers.{is_digit}
 
@@ -20,7 +21,7 @@ pub name_characters : (name : List ℕ) → is_name name ≡ true → list_all i
 name_characters [] is = absurd (cc)
 name_characters (c ∷ cs) is =
     let first = and_parts (is_small_letter c) _ is in
-    let rest = and_parts (nat_le (length cs) 23) _ first.1 in
+    let rest = and_parts (nat_lt (length cs) MAX_NAME_BYTES) _ first.1 in
     and_from (is_name_character c) (list_all is_name_character cs) (or_left _ (c == 95) (or_left (is_small_letter c) _ first.0)) rest.1
 
 -- a name has a character

@@ -11,9 +11,10 @@ use Rattle.std.proofs.Math.Nat.{pow-le-pow_right}
 use Rattle.std.proofs.lemmas.Fmt.{decimal-digits_value, decimal_digit, decimal_nonempty, digits_decimal, digits_value-decimal, first_decimal, length-decimal-le}
 use Rattle.std.proofs.lemmas.Int.Digits.{digits_value_more}
 use Rattle.std.proofs.lemmas.List.{length-take-le}
+use Rattle.std.proofs.lemmas.List.Folds.{list_all_more}
 use Rattle.std.proofs.lemmas.Str.{digit_value_digit}
 use Rattle.std.proofs.lemmas.Str.Parse.{IsDigitsTest, IsNumeralModel, digits_value_short, numerals_by_value}
-use Rattle.texts.specs.Numbers.{is_digit, is_natural, natural_in}
+use Rattle.texts.specs.Numbers.{IsNaturalText, is_digit, is_natural, natural_in, starts_natural}
 
 -- a digit lies between 0 and 9
 pub digit_in_range : (c : ℕ) → is_digit c ≡ true → IsInRange 48 57 c
@@ -33,79 +34,74 @@ tells_digits = record {
 pub numerals : IsNumeralModel (λ ds. list_all is_digit ds ≡ true) (digits_value 10)
 numerals = numerals_by_value (λ ds. list_all is_digit ds ≡ true) tells_digits
 
--- the first digits of digits are digits
-digits_front : (text : List ℕ) (i : ℕ) → list_all is_digit text ≡ true → list_all is_digit (take i text) ≡ true
-digits_front [] zero all = refl
-digits_front [] (suc i) all = refl
-digits_front (c ∷ cs) zero all = refl
-digits_front (c ∷ cs) (suc i) all =
-    let parts = and_parts (is_digit c) (list_all is_digit cs) all in
-    and_from (is_digit c) (list_all is_digit (take i cs)) parts.0 (digits_front cs i parts.1)
-
 -- each of some digits is a digit
 pub digit_at : (text : List ℕ) (i : ℕ) → list_all is_digit text ≡ true → i < length text → IsInRange 48 57 (get_or text i 0)
 digit_at [] i all within = absurd (omega arith)
 digit_at (c ∷ cs) zero all within = digit_in_range c (and_parts (is_digit c) (list_all is_digit cs) all).0
 digit_at (c ∷ cs) (suc i) all within = digit_at cs i (and_parts (is_digit c) (list_all is_digit cs) all).1 (omega arith)
 
+-- one digit more
+pub digits_more : (text : List ℕ) (i : ℕ) → list_all is_digit (take i text) ≡ true → is_digit (get_or text i 0) ≡ true → i < length text → list_all is_digit (take (i + 1) text) ≡ true
+digits_more text i all digit within =
+    list_all_more is_digit text i 0 within ∙ and_from (list_all is_digit (take i text)) (is_digit (get_or text i 0)) all digit
+
 -- fewer than 18 digits leave room for one more
-pub value_small : (text : List ℕ) (i : ℕ) → list_all is_digit text ≡ true → length text ≤ 18 → i < length text → digits_value 10 (take i text) < 10 ^ 17
+pub value_small : (text : List ℕ) (i : ℕ) → list_all is_digit (take i text) ≡ true → length text ≤ 18 → i < length text → digits_value 10 (take i text) < 10 ^ 17
 value_small text i all few within =
     let long : length (take i text) ≡ i = length-take-le i text (omega arith) in
-    digits_value_short numerals (take i text) 17 (digits_front text i all) (omega arith)
+    digits_value_short numerals (take i text) 17 all (omega arith)
 
--- one digit more
-pub value_more : (text : List ℕ) (i : ℕ) → list_all is_digit text ≡ true → i < length text → digits_value 10 (take (i + 1) text) ≡ digits_value 10 (take i text) * 10 + (get_or text i 0 - 48)
-value_more text i all within =
-    let in_range = digit_at text i all within in
+-- the value with one digit more
+pub value_more : (text : List ℕ) (i : ℕ) → is_digit (get_or text i 0) ≡ true → i < length text → digits_value 10 (take (i + 1) text) ≡ digits_value 10 (take i text) * 10 + (get_or text i 0 - 48)
+value_more text i is within =
+    let in_range = digit_in_range (get_or text i 0) is in
     let digit = digit_value_digit (get_or text i 0) in_range in
     let same : digit_value (get_or text i 0) ≡ get_or text i 0 - 48 = omega arith in
     digits_value_more 10 text i within ∙ ap (λ d. digits_value 10 (take i text) * 10 + d) same
 
 -- a number's text is of digits
 pub natural_digits : (digits : ℕ) (text : List ℕ) → is_natural digits text ≡ true → list_all is_digit text ≡ true
-natural_digits digits [] is = absurd (cc)
-natural_digits digits (c ∷ cs) is =
-    let short = and_parts (nat_le (length cs + 1) digits) _ is in
-    let first = and_parts (is_digit c) _ short.1 in
-    let rest = and_parts (list_all is_digit cs) _ first.1 in
-    and_from (is_digit c) (list_all is_digit cs) first.0 rest.0
+natural_digits digits text is = (and_parts (starts_natural digits text) (list_all is_digit text) is).1
 
--- the first digit of more than one is not 0
-first_is : (c : ℕ) (cs : List ℕ) → (not (c == 48) || nat_le (length cs) 0) ≡ true → c ≡ 48 → length (c ∷ cs) ≡ 1
-first_is c cs is zero_first =
-    elim (or_cases (not (c == 48)) (nat_le (length cs) 0) is) [
-      | inl other ↦ absurd (let same = eq-eqb c 48 zero_first in cc)
-      | inr none ↦ let few : length cs ≤ 0 = leb-true (length cs) 0 none in omega arith
-    ]
+-- how a number's text starts
+pub record Starts (digits : ℕ) (text : List ℕ) : Type 0 where
+  pub some : 0 < length text
+  pub few : length text ≤ digits
+  pub led : get_or text 0 0 ≡ 48 → length text ≡ 1
 
--- a text that spells a number is its decimal
-pub record Spells (digits : ℕ) (text : List ℕ) (n : ℕ) : Type 0 where
-  pub written : text ≡ decimal n
-  pub small : n < 10 ^ digits
-
-spells_value : (digits : ℕ) (text : List ℕ) → digits ≤ 18 → is_natural digits text ≡ true → Spells digits text (digits_value 10 text)
-spells_value digits [] few is = absurd (cc)
-spells_value digits (c ∷ cs) few is =
-    let short = and_parts (nat_le (length cs + 1) digits) _ is in
-    let first = and_parts (is_digit c) _ short.1 in
-    let rest = and_parts (list_all is_digit cs) _ first.1 in
-    let long : length (c ∷ cs) ≤ digits = (let le = leb-true (length cs + 1) digits short.0 in omega arith) in
-    let all : list_all is_digit (c ∷ cs) ≡ true = and_from (is_digit c) (list_all is_digit cs) first.0 rest.0 in
-    let small : digits_value 10 (c ∷ cs) < 10 ^ digits = digits_value_short numerals (c ∷ cs) digits all long in
-    let fits : digits_value 10 (c ∷ cs) < 10 ^ 18 = digits_value_short numerals (c ∷ cs) 18 all (omega arith) in
+pub starts : (digits : ℕ) (text : List ℕ) → starts_natural digits text ≡ true → Starts digits text
+starts digits [] is = absurd (cc)
+starts digits (c ∷ cs) is =
+    let parts = and_parts (nat_le (length cs + 1) digits) (not (c == 48) || nat_le (length cs) 0) is in
     record {
-      written = sym (decimal-digits_value numerals (c ∷ cs) all (omega arith) (first_is c cs rest.1) (omega arith));
+      some = omega arith;
+      few = (let le = leb-true (length cs + 1) digits parts.0 in omega arith);
+      led = λ zero_first.
+          elim (or_cases (not (c == 48)) (nat_le (length cs) 0) parts.1) [
+            | inl other ↦ absurd (let same = eq-eqb c 48 zero_first in cc)
+            | inr none ↦ let few : length cs ≤ 0 = leb-true (length cs) 0 none in omega arith
+          ];
+    }
+
+spells_value : (digits : ℕ) (text : List ℕ) → digits ≤ 18 → is_natural digits text ≡ true → IsNaturalText digits text (digits_value 10 text)
+spells_value digits text few is =
+    let parts = and_parts (starts_natural digits text) (list_all is_digit text) is in
+    let start : Starts digits text = starts digits text parts.0 in
+    let small : digits_value 10 text < 10 ^ digits = digits_value_short numerals text digits parts.1 start.few in
+    let fits : digits_value 10 text < 10 ^ 18 = digits_value_short numerals text 18 parts.1 (let few_bytes = start.few in omega arith) in
+    record {
+      written = sym (decimal-digits_value numerals text parts.1 start.some start.led (omega arith));
       small = small;
     }
 
-spells_some : (digits : ℕ) (text : List ℕ) (n : ℕ) (is : Bool) → digits ≤ 18 → is_natural digits text ≡ is → (if is then Some (digits_value 10 text) else None) ≡ Some n → Spells digits text n
+spells_some : (digits : ℕ) (text : List ℕ) (n : ℕ) (is : Bool) → digits ≤ 18 → is_natural digits text ≡ is → (if is then Some (digits_value 10 text) else None) ≡ Some n → IsNaturalText digits text n
 spells_some digits text n false few same is = absurd (cc)
 spells_some digits text n true few same is =
     let value : digits_value 10 text ≡ n = cc in
-    subst (Spells digits text) value (spells_value digits text few same)
+    subst (IsNaturalText digits text) value (spells_value digits text few same)
 
-pub natural_spells : (digits : ℕ) (text : List ℕ) (n : ℕ) → digits ≤ 18 → natural_in digits text ≡ Some n → Spells digits text n
+-- a text that spells a number is its decimal
+pub natural_spells : (digits : ℕ) (text : List ℕ) (n : ℕ) → digits ≤ 18 → natural_in digits text ≡ Some n → IsNaturalText digits text n
 natural_spells digits text n few is = spells_some digits text n (is_natural digits text) few refl is
 
 -- where a first digit of 0 stands alone
@@ -120,9 +116,8 @@ not_led c cs first =
 shape : (digits : ℕ) (text : List ℕ) → list_all is_digit text ≡ true → 0 < length text → length text ≤ digits → (get_or text 0 0 ≡ 48 → length text ≡ 1) → is_natural digits text ≡ true
 shape digits [] all some few first = absurd (omega arith)
 shape digits (c ∷ cs) all some few first =
-    let parts = and_parts (is_digit c) (list_all is_digit cs) all in
-    and_from (nat_le (length cs + 1) digits) _ (le-leb (length cs + 1) digits (omega arith))
-    (and_from (is_digit c) _ parts.0 (and_from (list_all is_digit cs) _ parts.1 (not_led c cs first)))
+    and_from (starts_natural digits (c ∷ cs)) (list_all is_digit (c ∷ cs))
+    (and_from (nat_le (length cs + 1) digits) _ (le-leb (length cs + 1) digits (omega arith)) (not_led c cs first)) all
 
 -- the decimal of a number begins with 0 where the number is 0 alone
 led : (n : ℕ) → n < 2 ^ 64 → get_or (decimal n) 0 0 ≡ 48 → length (decimal n) ≡ 1
@@ -138,3 +133,10 @@ natural_decimal digits n some few small =
     shape digits (decimal n) (digits_decimal numerals n fits) (decimal_nonempty n fits) (length-decimal-le digits n (omega arith) small fits) (led n fits) in
     let value : digits_value 10 (decimal n) ≡ n = digits_value-decimal numerals n fits in
     rw (is, value)
+
+pub natural_is_read : (digits : ℕ) (text : List ℕ) (n : ℕ) → 1 ≤ digits → digits ≤ 18 → IsNaturalText digits text n → natural_in digits text ≡ Some n
+natural_is_read digits text n some few is = ap (natural_in digits) is.written ∙ natural_decimal digits n some few is.small
+
+-- a number that was read is small
+pub natural_small : (digits : ℕ) (text : List ℕ) → list_all is_digit text ≡ true → starts_natural digits text ≡ true → digits_value 10 text < 10 ^ digits
+natural_small digits text all start = digits_value_short numerals text digits all (starts digits text start).few

@@ -1,10 +1,13 @@
-//! What the lines of the repository's texts are made of: names, and numbers of one spelling each.
+//! What the texts of the repository are made of: lines, words, names, and numbers of one spelling each.
 #![tactic(auto)]
 
+pub mod laws;
+mod line;
 mod name;
 mod number;
 #[cfg(test)]
 mod tests;
 
-pub use name::is_name;
-pub use number::natural;
+pub use line::{cut, take_line, take_word};
+pub use name::{Name, is_name};
+pub use number::{natural, price, whole};

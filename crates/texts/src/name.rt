@@ -4,8 +4,11 @@ ghost use Rattle.std.specs.Prelude.{◌≡◌};
 ghost use Rattle.std.specs.List.{list_all};
 ghost use Rattle.texts.specs.Names.{is_name, is_name_character};
 
-/// The most bytes of a name.
-const MAX_NAME_BYTES: usize = 24;
+use limits::MAX_NAME_BYTES;
+use listed::Text;
+
+/// The name of a link, a signal or a phase.
+pub type Name = Text;
 
 /// Whether a byte may stand in a name: a to z, 0 to 9 or an underscore.
 fn is_name_byte(byte: u8) -> bool

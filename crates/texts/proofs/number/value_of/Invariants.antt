@@ -1,7 +1,0 @@
--- The digits read so far write the value.
-use Rattle.std.proofs.Common.{◌≡◌, take}
-use Rattle.std.specs.Str.Parse.{digits_value}
-use Rattle.texts.proofs.number.value_of.Given as goal
-
-abbrev pub invariant-loop-byte : goal.invariant-loop-byte
-invariant-loop-byte l = l.value ≡ digits_value 10 (take l.byte-index l.text)
