@@ -4,11 +4,11 @@ use Rattle.std.specs.Prelude.{◌^◌, not, nat_lt, nat_le, ◌==◌, take}
 use Rattle.std.specs.Int.{bit_at}
 use Rattle.std.proofs.lemmas.Bool.{and_from, and_parts, cases_eq, eq-eqb, eqb-true, le-leb, leb-false, leb-true, lt-leb, lt-ltb, le-ltb, ltb-false, ltb-true, not-false, or_cases, or_left, or_right}
 use Rattle.std.proofs.lemmas.List.{append-nil, append_assoc, get_or_at, length_push, length-append}
-use Rattle.refusals.specs.Faults.{join_below, where_so}
-use Rattle.refusals.proofs.JoinLaws.{append_none, join_none, join_of_none, where_none}
-use Rattle.refusals.proofs.FirstFaults.{unless_fine}
+use Rattle.listed.specs.Below.{join_below, sum_below}
+use Rattle.refusals.specs.Faults.{where_so}
+use Rattle.listed.proofs.JoinLaws.{append_none, join_none, join_of_none}
+use Rattle.refusals.proofs.FirstFaults.{where_none, unless_fine}
 use Rattle.ct_base.specs.Access.{phase_of}
-use Rattle.ct_base.specs.Tables.{sum_below}
 use Rattle.ct_base.specs.declared.plan.Letter.{Letter}
 use Rattle.ct_base.specs.declared.signal.Signal.{Signal}
 use Rattle.traffic_model.specs.Runs.{Run, letters_of_runs}

@@ -1,5 +1,5 @@
 -- A run is judged by the runs before it alone, and a walk over runs stops at the first fault.
-use Rattle.std.proofs.Common.{◌≡◌, inl, inr, ℕ, zero, suc, ◌+◌, ◌-◌, ◌<◌, ◌≤◌, List, [], ◌∷◌, ◌++◌, length, map, get_or, Result, Ok, Err, refl, sym, ap, false, ◌∙◌, arith}
+use Rattle.std.proofs.Common.{◌≡◌, inl, inr, ℕ, zero, suc, ◌+◌, ◌-◌, ◌<◌, ◌≤◌, List, [], ◌∷◌, ◌++◌, length, map, get_or, Ok, Err, refl, sym, ap, false, ◌∙◌, arith}
 use Rattle.std.specs.Prelude.{◌^◌, ◌==◌, min, take, replicate}
 use Rattle.std.specs.Int.{bit_at}
 use Rattle.std.proofs.lemmas.List.{append_assoc, flat_map_more, get_or_append_left, get_or-map, get_or_at, length-append, length-map, length-replicate, length-take-le, map-append, replicate-append-replicate, take_all, take_at, take_more}
@@ -8,16 +8,15 @@ use Rattle.std.proofs.lemmas.Nat.Bits.{bit_at_above}
 use Rattle.refusals.specs.Faults.{unless}
 use Rattle.refusals.proofs.FirstFaults.{BeginsWith, unless_begins, unless_fine, unless_refused}
 use Rattle.ct_base.specs.Access.{phase_of}
-use Rattle.ct_base.proofs.TableLaws.{sum_below-same, sum_below-suc}
+use Rattle.listed.proofs.SumLaws.{sum_below-same, sum_below-suc}
 use Rattle.ct_base.specs.declared.plan.Letter.{Letter}
 use Rattle.ct_base.specs.declared.plan.Letter.TheVariants as letters
 use Rattle.ct_base.specs.declared.signal.Signal.{Signal}
 use Rattle.traffic_model.specs.Runs.{Run, letters_of_run, letters_of_runs}
-use Rattle.phase_rules.specs.Expansion.{Gives, begins_at, expanded, faults_at, faults_of, length_of_run, may_be, run_at, run_by}
-use Rattle.phase_rules.specs.Judging.{faults_of_run}
+use Rattle.phase_rules.specs.Expansion.{begins_at, expanded, faults_at, faults_of, length_of_run, may_be, run_at, run_by}
+use Rattle.phase_rules.specs.inner.Judging.{faults_of_run}
 use Rattle.phase_rules.proofs.FitLaws.{fit_from_none}
 use Rattle.phase_rules.specs.declared.fault.RunFault.{RunFault}
-use Rattle.phase_rules.specs.declared.fault.RunFault.TheVariants.{Green, Memory, Order, Short, Start, Surplus}
 
 -- eight bits have no bit from the eighth on
 pub no_bit_past_eight : (phases phase : ℕ) → phases < 2 ^ 8 → 8 ≤ phase → (bit_at phases phase == 1) ≡ false
@@ -142,15 +141,6 @@ faults_at_front signal pairs j steps within =
     ∙ ap (λ number. faults_of_run signal (may_be signal (map run_by (take j pairs)) number) (begins_at signal (map run_by pairs) j) steps number (run_by run)) long
     ∙ ap (λ allowed. faults_of_run signal allowed (begins_at signal (map run_by pairs) j) steps j (run_by run)) (may_be_same signal (map run_by (take j pairs)) (map run_by pairs) j (λ k h. at_front pairs j k h))
     ∙ sym (faults_same signal (map run_by pairs) (map run_by pairs) steps j (run_by run) (λ k h. refl) reads)
-
--- a fault is an answer
-pub gives_fault : (fault : RunFault) (word : Result (List Letter) RunFault) → word ≡ Err fault → Gives (Err fault) word
-gives_fault (Surplus run) word is = is
-gives_fault Start word is = is
-gives_fault (Order run) word is = is
-gives_fault (Green run) word is = is
-gives_fault (Short letters) word is = is
-gives_fault Memory word is = tt
 
 -- the first fault of runs is that of their expansion
 pub expanded_fault : (signal : Signal) (runs : List Run) (steps : ℕ) (fault : RunFault) → Err fault ≡ unless {X = Unit {0}} (faults_of signal runs steps) tt → expanded signal runs steps ≡ Err fault

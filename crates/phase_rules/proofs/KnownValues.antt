@@ -1,14 +1,13 @@
 -- Words and runs that were worked by hand (docs/signals.md, "What the horizon cuts"), which the definitions compute.
 use Rattle.std.proofs.Common.{◌≡◌, ℕ, zero, suc, ◌<◌, ◌≤◌, true, false, [], ◌∷◌, map, Ok, Err, refl, arith}
-use Rattle.refusals.specs.Faults.{join_below}
+use Rattle.listed.specs.Below.{join_below, sum_below}
 use Rattle.ct_base.specs.Access.{phase_of}
-use Rattle.ct_base.specs.Tables.{sum_below}
 use Rattle.ct_base.specs.Validity.{IsPhase, IsSignal}
 use Rattle.ct_base.specs.declared.plan.Letter.TheVariants.{Green, Clear}
 use Rattle.ct_base.specs.declared.signal.Signal.{Signal}
 use Rattle.traffic_model.specs.Runs.{IsAdmissible}
 use Rattle.phase_rules.specs.Expansion.{expanded, faults_of, run_by}
-use Rattle.phase_rules.specs.Greens.{greens_of}
+use Rattle.phase_rules.specs.inner.Greens.{greens_of}
 use Rattle.phase_rules.specs.declared.fault.RunFault.TheVariants as faults
 use Rattle.phase_rules.proofs.ScanLaws.{passes_iff_admissible}
 

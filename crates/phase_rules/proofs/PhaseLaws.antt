@@ -8,7 +8,7 @@ use Rattle.ct_base.specs.declared.plan.Letter.{Letter}
 use Rattle.ct_base.specs.declared.signal.Signal.{Signal}
 use Rattle.traffic_model.specs.Runs.{IsAdmissible, Run, letters_of_runs}
 use Rattle.phase_rules.specs.Expansion.{expanded, run_by}
-use Rattle.phase_rules.specs.Greens.{greens_of}
+use Rattle.phase_rules.specs.inner.Greens.{greens_of}
 use Rattle.phase_rules.proofs.FitLaws.{Spell, expanded_from_spell, spell_from_expanded}
 use Rattle.phase_rules.proofs.WordLaws.{admissible_from_spell, fit_fills, greens_from_fit, spell_from_admissible, start_has_phases}
 

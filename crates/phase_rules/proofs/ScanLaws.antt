@@ -10,7 +10,7 @@ use Rattle.ct_base.specs.declared.plan.Letter.{Letter}
 use Rattle.ct_base.specs.declared.plan.Letter.TheVariants as letters
 use Rattle.ct_base.specs.declared.signal.Signal.{Signal}
 use Rattle.traffic_model.specs.Runs.{AreRuns, IsAdmissible, IsRun, Run, letters_of_runs}
-use Rattle.phase_rules.specs.Scan.{BeginRuns, Completes, GoesOnGreen, IsState, after_clearing, after_letter, goes_on, is_clear_of, is_green_of, opened, passes}
+use Rattle.phase_rules.specs.inner.Scan.{BeginRuns, Completes, GoesOnGreen, IsState, after_clearing, after_letter, goes_on, is_clear_of, is_green_of, opened, passes}
 use Rattle.phase_rules.specs.declared.scan.Scan.{Scan}
 use Rattle.phase_rules.specs.declared.scan.Scan.TheVariants.{Start, Green, Clear}
 use Rattle.phase_rules.proofs.WordLaws.{HasPhases, next_has_phases, next_is_other, start_has_phases}

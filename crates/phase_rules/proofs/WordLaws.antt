@@ -13,7 +13,7 @@ use Rattle.ct_base.specs.declared.plan.Letter.TheVariants.{Green, Clear}
 use Rattle.ct_base.specs.declared.signal.Signal.{Signal}
 use Rattle.traffic_model.specs.Runs.{AreRuns, IsAdmissible, IsRun, Run, letters_of_run, letters_of_runs}
 use Rattle.phase_rules.specs.Expansion.{length_of_run, run_by}
-use Rattle.phase_rules.specs.Greens.{greens_from, greens_of}
+use Rattle.phase_rules.specs.inner.Greens.{greens_from, greens_of}
 use Rattle.phase_rules.proofs.FitLaws.{AreFit, IsFit, Spell}
 
 -- ---- sets of phases

@@ -1,14 +1,14 @@
 -- The word that a list of runs becomes within a horizon, or the first run at fault (docs/signals.md, "The runs of a plan").
-use Rattle.std.specs.Prelude.{◌≡◌, ℕ, zero, suc, ◌+◌, ◌^◌, Bool, not, ◌&&◌, ◌||◌, nat_lt, nat_le, ◌==◌, List, ◌++◌, length, take, Result, Ok, Err, slice_index_or}
+use Rattle.std.specs.Prelude.{ℕ, zero, suc, ◌+◌, ◌^◌, Bool, not, ◌&&◌, ◌||◌, nat_lt, nat_le, ◌==◌, List, ◌++◌, length, take, Result, slice_index_or}
 use Rattle.std.specs.Int.{bit_at}
-use Rattle.refusals.specs.Faults.{join_below, unless, where_so}
+use Rattle.listed.specs.Below.{join_below, sum_below}
+use Rattle.refusals.specs.Faults.{unless, where_so}
 use Rattle.ct_base.specs.Access.{phase_of}
-use Rattle.ct_base.specs.Tables.{sum_below}
 use Rattle.ct_base.specs.declared.plan.Letter.{Letter}
 use Rattle.ct_base.specs.declared.signal.Signal.{Signal}
 use Rattle.traffic_model.specs.Runs.{Run, letters_of_runs}
 use Rattle.phase_rules.specs.declared.fault.RunFault.{RunFault}
-use Rattle.phase_rules.specs.declared.fault.RunFault.TheVariants.{Surplus, Start, Order, Green, Short, Memory}
+use Rattle.phase_rules.specs.declared.fault.RunFault.TheVariants.{Surplus, Start, Order, Green, Short}
 
 -- a phase and a number of green letters as a run
 abbrev pub run_by : ℕ × ℕ → Run
@@ -63,9 +63,3 @@ faults_of signal runs steps = join_below (length runs) (faults_at signal runs st
 -- the letters of the runs inside the horizon, or the first fault
 unfoldable pub expanded : Signal → List Run → ℕ → Result (List Letter) RunFault
 expanded signal runs steps = unless (faults_of signal runs steps) (take steps (letters_of_runs signal runs))
-
--- an answer is the word or the first fault; want of memory says nothing
-abbrev pub Gives : Result (List Letter) RunFault → Result (List Letter) RunFault → Type 0
-Gives (Err Memory) word = Unit {0}
-Gives (Ok letters) word = word ≡ Ok letters
-Gives (Err fault) word = word ≡ Err fault

@@ -1,4 +1,2 @@
 pub mod Expansion
-pub mod Judging
-pub mod Greens
-pub mod Scan
+pub mod inner

@@ -5,9 +5,10 @@ ghost use Rattle.std.specs.Prelude.{◌≡◌, ◌+◌, ◌<◌, ◌≤◌, ◌^
 ghost use Rattle.ct_base.specs.Access.{phase_of};
 ghost use Rattle.ct_base.specs.Validity.{IsBetween, IsSignal};
 ghost use Rattle.refusals.specs.Faults.{unless};
+ghost use Rattle.refusals.specs.Memory.{OrMemory};
 ghost use Rattle.traffic_model.specs.Runs.{IsAdmissible, letters_of_runs};
-ghost use Rattle.phase_rules.specs.Expansion.{Gives, begins_at, expanded, faults_at, faults_of, is_green, may_be, out_of_order, run_by, short_faults};
-ghost use Rattle.phase_rules.specs.Judging.{faults_of_run};
+ghost use Rattle.phase_rules.specs.Expansion.{begins_at, expanded, faults_at, faults_of, is_green, may_be, out_of_order, run_by, short_faults};
+ghost use Rattle.phase_rules.specs.inner.Judging.{faults_of_run};
 
 use crate::fault::RunFault;
 use crate::phase::{is_member, phase_at};
@@ -27,7 +28,7 @@ pub fn expand(
 ) -> Result<Word, RunFault>
     requires signal { IsSignal signal.now }
     requires steps { IsBetween 1 240 steps }
-    ensures word { Gives result (expanded signal.now (map run_by runs.now) steps) }
+    ensures word { OrMemory RunFault.Memory (expanded signal.now (map run_by runs.now) steps) result }
     ensures length { IfOk result (λ word. length word ≡ steps) }
     ensures admissible { IfOk result (IsAdmissible signal.now) }
 {

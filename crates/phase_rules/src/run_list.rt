@@ -4,7 +4,7 @@ ghost use Rattle.std.specs.Prelude.{◌≡◌, ℕ, ◌≤◌, ◌++◌, List, O
 ghost use Rattle.ct_base.specs.Validity.{IsBetween, IsSignal};
 ghost use Rattle.traffic_model.specs.Runs.{IsAdmissible};
 ghost use Rattle.phase_rules.specs.Expansion.{expanded, run_by};
-ghost use Rattle.phase_rules.specs.Greens.{ended, greens_of, under_way};
+ghost use Rattle.phase_rules.specs.inner.Greens.{ended, greens_of, under_way};
 
 use ct_base::{Letter, Listed, Memory, Signal};
 use std::alloc::Global;

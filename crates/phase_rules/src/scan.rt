@@ -3,7 +3,7 @@
 ghost use Rattle.std.specs.Prelude.{◌≡◌, IsTrue, ◌↔◌, length};
 ghost use Rattle.ct_base.specs.Validity.{IsBetween, IsSignal};
 ghost use Rattle.traffic_model.specs.Runs.{IsAdmissible};
-ghost use Rattle.phase_rules.specs.Scan.{after_clearing, after_letter, opened};
+ghost use Rattle.phase_rules.specs.inner.Scan.{after_clearing, after_letter, opened};
 
 use crate::phase::{is_member, phase_at};
 use ct_base::{Letter, Signal};

@@ -5,14 +5,15 @@ use Rattle.std.proofs.lemmas.Bool.Decides.{eqb_tells}
 use Rattle.std.proofs.lemmas.List.Elements.{All-weaker}
 use Rattle.std.proofs.lemmas.List.Sums.{sum_by-cons}
 use Rattle.ct_base.specs.Access.{cell_of, parcel, targets}
-use Rattle.ct_base.specs.Tables.{sum_below}
+use Rattle.listed.specs.Below.{sum_below}
 use Rattle.ct_base.specs.Validity.{IsValid, IsTarget}
 use Rattle.ct_base.specs.declared.cell.Cell.{Cell}
 use Rattle.ct_base.specs.declared.cell.Out.{Out}
 use Rattle.ct_base.specs.declared.cell.Out.TheVariants.{Exit, To, Turns}
 use Rattle.ct_base.specs.declared.net.Net.{Net}
 use Rattle.ct_base.specs.declared.plan.Letter.{Letter}
-use Rattle.ct_base.proofs.TableLaws.{sum-table_of, sum_below-add, sum_below-mul_right, sum_below-none, sum_below-only, sum_below-same, sum_below-swap, sum_by_index-long}
+use Rattle.listed.proofs.SumLaws.{sum_below-add, sum_below-mul_right, sum_below-none, sum_below-only, sum_below-same, sum_below-swap}
+use Rattle.listed.proofs.TableLaws.{sum-table_of, sum_by_index-long}
 use Rattle.traffic_model.specs.Conservation.{arriving, by_exit, leaving}
 use Rattle.traffic_model.specs.Delay.{left_of}
 use Rattle.traffic_model.specs.Flow.{flow, inflow, outflow, parcel_to, share, units_of_flow}

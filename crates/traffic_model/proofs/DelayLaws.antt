@@ -4,14 +4,15 @@ use Rattle.std.proofs.Common.{◌≡◌, ℕ, ◌+◌, ◌-◌, ◌*◌, ◌^◌
 use Rattle.std.proofs.lemmas.Bool.{cases_lt}
 use Rattle.std.proofs.lemmas.List.{get_or_past}
 use Rattle.ct_base.specs.Access.{cell_of}
-use Rattle.ct_base.specs.Tables.{sum_below}
+use Rattle.listed.specs.Below.{sum_below}
 use Rattle.ct_base.specs.Validity.{IsValid, IsOfKind}
 use Rattle.ct_base.specs.declared.cell.Cell.{Cell}
 use Rattle.ct_base.specs.declared.cell.Kind.{Kind}
 use Rattle.ct_base.specs.declared.cell.Kind.TheVariants.{Queue, Road}
 use Rattle.ct_base.specs.declared.net.Net.{Net}
 use Rattle.ct_base.specs.declared.plan.Letter.{Letter}
-use Rattle.ct_base.proofs.TableLaws.{sum_below-bound, sum_below-suc, sum_below-zero, sum_by_index-long}
+use Rattle.listed.proofs.SumLaws.{sum_below-bound, sum_below-suc, sum_below-zero}
+use Rattle.listed.proofs.TableLaws.{sum_by_index-long}
 use Rattle.traffic_model.specs.Delay.{delay_of, left_of, step_delay}
 use Rattle.traffic_model.specs.Flow.{outflow}
 use Rattle.traffic_model.specs.Occupancy.{AreHeld, demand_at, most_held, occupancies}

@@ -2,14 +2,15 @@
 -- demand so far.
 use Rattle.std.proofs.Common.{◌≡◌, ℕ, zero, suc, ◌+◌, ◌<◌, ◌≤◌, List, length, slice_index, refl, ap, arith, add-one}
 use Rattle.ct_base.specs.Access.{cell_of}
-use Rattle.ct_base.specs.Tables.{sum_below}
+use Rattle.listed.specs.Below.{sum_below}
 use Rattle.ct_base.specs.Validity.{IsValid, IsOfKind}
 use Rattle.ct_base.specs.declared.cell.Cell.{Cell}
 use Rattle.ct_base.specs.declared.cell.Kind.{Kind}
 use Rattle.ct_base.specs.declared.cell.Kind.TheVariants.{Queue, Road}
 use Rattle.ct_base.specs.declared.net.Net.{Net}
 use Rattle.ct_base.specs.declared.plan.Letter.{Letter}
-use Rattle.ct_base.proofs.TableLaws.{length-table_of, slice_index-table_of, sum_below-suc}
+use Rattle.listed.proofs.SumLaws.{sum_below-suc}
+use Rattle.listed.proofs.TableLaws.{length-table_of, slice_index-table_of}
 use Rattle.traffic_model.specs.Flow.{inflow}
 use Rattle.traffic_model.specs.Occupancy.{AreHeld, demand_at, initial_units, most_held, next_of, next_units, occupancies}
 use Rattle.traffic_model.proofs.InflowLaws.{inflow_fits, inflow_of_queue, road_of}

@@ -6,7 +6,7 @@ use Rattle.std.proofs.lemmas.Bool.{cases_Bool}
 use Rattle.std.proofs.lemmas.List.Elements.{All-contains}
 use Rattle.std.proofs.lemmas.Nat.Bits.{bit_at_and, bit_at-zero}
 use Rattle.ct_base.specs.Access.{cell_of, targets}
-use Rattle.ct_base.specs.Tables.{sum_below}
+use Rattle.listed.specs.Below.{sum_below}
 use Rattle.ct_base.specs.Validity.{IsValid, IsTarget, IsRoad, IsOfKind, AreApart}
 use Rattle.ct_base.specs.declared.cell.Cell.{Cell}
 use Rattle.ct_base.specs.declared.cell.Gate.{Gate}
@@ -14,8 +14,8 @@ use Rattle.ct_base.specs.declared.cell.Kind.TheVariants.{Queue, Road}
 use Rattle.ct_base.specs.declared.net.Net.{Net}
 use Rattle.ct_base.specs.declared.plan.Letter.{Letter}
 use Rattle.ct_base.specs.declared.plan.Letter.TheVariants.{Green, Clear}
-use Rattle.ct_base.proofs.TableLaws.{sum_below-at_most_one, sum_below-fewer, sum_below-none}
-use Rattle.traffic_model.specs.Flow.{is_green_of, is_open, letter_of, flow, share, inflow}
+use Rattle.listed.proofs.SumLaws.{sum_below-at_most_one, sum_below-fewer, sum_below-none}
+use Rattle.traffic_model.specs.Flow.{is_green_among, is_open, letter_of, flow, share, inflow}
 use Rattle.traffic_model.specs.Occupancy.{AreHeld}
 use Rattle.traffic_model.proofs.FlowLaws.{flow-closed, flow-further}
 use Rattle.traffic_model.proofs.ShareLaws.{brings_within, receiving-le, share_cases}
@@ -23,7 +23,7 @@ use Rattle.traffic_model.proofs.ShareLaws.{brings_within, receiving-le, share_ca
 -- ---- separated moves
 
 -- no letter is the green of a phase of each of two sets that have none in common
-both_green : (g h : ℕ) (letter : Letter) → bit_and g h ≡ 0 → is_green_of g letter ≡ true → is_green_of h letter ≡ true → ⊥
+both_green : (g h : ℕ) (letter : Letter) → bit_and g h ≡ 0 → is_green_among g letter ≡ true → is_green_among h letter ≡ true → ⊥
 both_green g h (Green p) apart in_g in_h =
     let at_g : bit_at g p ≡ 1 = eqb-true (bit_at g p) 1 in_g in
     let at_h : bit_at h p ≡ 1 = eqb-true (bit_at h p) 1 in_h in
@@ -39,7 +39,7 @@ both_open letters None second apart open_first open_second = apart
 both_open letters (Some g) None apart open_first open_second = apart
 both_open letters (Some g) (Some h) apart open_first open_second =
     both_green g.greens h.greens (letter_of letters g.signal) apart.1 open_first
-    (subst (λ s. is_green_of h.greens (letter_of letters s) ≡ true) (sym apart.0) open_second)
+    (subst (λ s. is_green_among h.greens (letter_of letters s) ≡ true) (sym apart.0) open_second)
 
 -- ---- the inflow
 

@@ -1,6 +1,6 @@
 -- Delays that were worked by hand (docs/traffic.md, "Worked by hand"), which the definitions compute.
 use Rattle.std.proofs.Common.{◌≡◌, ℕ, List, [], ◌∷◌, Some, None, refl}
-use Rattle.ct_base.specs.Tables.{sum_below, table_of}
+use Rattle.listed.specs.Below.{sum_below, table_of}
 use Rattle.ct_base.specs.declared.cell.Cell.{Cell}
 use Rattle.ct_base.specs.declared.cell.Kind.TheVariants.{Queue, Road}
 use Rattle.ct_base.specs.declared.cell.Out.{Out}

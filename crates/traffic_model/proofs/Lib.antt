@@ -6,4 +6,7 @@ pub mod HeldLaws
 pub mod ConservationLaws
 pub mod DelayLaws
 pub mod LetterLaws
+pub mod PrefixLaws
+pub mod FrontLaws
+pub mod PlansExist
 pub mod TrafficLaws

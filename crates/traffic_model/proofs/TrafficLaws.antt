@@ -6,3 +6,6 @@ pub use Rattle.traffic_model.proofs.HeldLaws.{AreHeld-initial_units, AreHeld-nex
 pub use Rattle.traffic_model.proofs.ConservationLaws.{next_units-conserve, occupancies-conserve}
 pub use Rattle.traffic_model.proofs.DelayLaws.{delay_of-le, delay_of-lt, delay_of-suc, delay_of-zero, held-le, held_so_far, left_of-sum, step_delay-le, step_delay-sum, step_delay_so_far, sum_held-le}
 pub use Rattle.traffic_model.proofs.LetterLaws.{length-letters_at, letters_at-signal}
+pub use Rattle.traffic_model.proofs.PrefixLaws.{delay_of-agree, delay_of-grows, left_of-agree, occupancies-agree}
+pub use Rattle.traffic_model.proofs.FrontLaws.{delay_of-front, front-admissible, front-word, length-front, letters_at-front, take-admissible}
+pub use Rattle.traffic_model.proofs.PlansExist.{plan_exists, plan_goes_on, word_exists, word_goes_on}

@@ -1,7 +1,7 @@
 -- What enters and leaves the network as a whole in a step.
 use Rattle.std.specs.Prelude.{ℕ, List, length}
 use Rattle.ct_base.specs.Access.{cell_of}
-use Rattle.ct_base.specs.Tables.{sum_below}
+use Rattle.listed.specs.Below.{sum_below}
 use Rattle.ct_base.specs.declared.cell.Cell.{Cell}
 use Rattle.ct_base.specs.declared.cell.Out.{Out}
 use Rattle.ct_base.specs.declared.cell.Out.TheVariants.{Exit, To, Turns}

@@ -1,6 +1,6 @@
 -- Delay, and the units that are left at the end (docs/traffic.md, "Delay"). This project's own sum.
 use Rattle.std.specs.Prelude.{ℕ, ◌-◌, List, length, map, sum, slice_index, slice_index_or}
-use Rattle.ct_base.specs.Tables.{sum_below}
+use Rattle.listed.specs.Below.{sum_below}
 use Rattle.ct_base.specs.declared.cell.Cell.{Cell}
 use Rattle.ct_base.specs.declared.plan.Letter.{Letter}
 use Rattle.ct_base.specs.declared.plan.Letter.TheVariants.{Clear}

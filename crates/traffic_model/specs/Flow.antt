@@ -3,7 +3,7 @@
 use Rattle.std.specs.Prelude.{ℕ, ◌+◌, ◌-◌, ◌*◌, ◌/◌, ◌==◌, min, Bool, true, false, if◌then◌else◌, List, [], ◌∷◌, map, fold, length, position, Option, Some, None, unwrap_or, slice_index, slice_index_or}
 use Rattle.std.specs.Int.{bit_at}
 use Rattle.ct_base.specs.Access.{cell_of, parcel}
-use Rattle.ct_base.specs.Tables.{sum_below}
+use Rattle.listed.specs.Below.{sum_below}
 use Rattle.ct_base.specs.declared.cell.Cell.{Cell}
 use Rattle.ct_base.specs.declared.cell.Gate.{Gate}
 use Rattle.ct_base.specs.declared.cell.Out.{Out}
@@ -12,9 +12,9 @@ use Rattle.ct_base.specs.declared.plan.Letter.{Letter}
 use Rattle.ct_base.specs.declared.plan.Letter.TheVariants.{Green, Clear}
 
 -- a letter is the green of a phase of the set
-abbrev pub is_green_of : ℕ → Letter → Bool
-is_green_of greens (Green p) = bit_at greens p == 1
-is_green_of greens (Clear p) = false
+abbrev pub is_green_among : ℕ → Letter → Bool
+is_green_among greens (Green p) = bit_at greens p == 1
+is_green_among greens (Clear p) = false
 
 -- what a signal shows, one letter per signal being given
 abbrev pub letter_of : List Letter → ℕ → Letter
@@ -23,7 +23,7 @@ letter_of letters s = slice_index_or letters s (Clear 0)
 -- a cell with this gate lets units leave
 abbrev pub is_open : List Letter → Option Gate → Bool
 is_open letters None = true
-is_open letters (Some gate) = is_green_of gate.greens (letter_of letters gate.signal)
+is_open letters (Some gate) = is_green_among gate.greens (letter_of letters gate.signal)
 
 -- the least of some numbers
 abbrev pub least : List ℕ → ℕ

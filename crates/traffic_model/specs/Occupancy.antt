@@ -1,7 +1,7 @@
 -- What the cells hold at each step (docs/traffic.md, "From step to step"). After Daganzo 1994.
 use Rattle.std.specs.Prelude.{◌≡◌, ℕ, zero, suc, ◌+◌, ◌-◌, ◌<◌, ◌≤◌, List, length, slice_index}
 use Rattle.ct_base.specs.Access.{cell_of}
-use Rattle.ct_base.specs.Tables.{sum_below, table_of}
+use Rattle.listed.specs.Below.{sum_below, table_of}
 use Rattle.ct_base.specs.declared.cell.Cell.{Cell}
 use Rattle.ct_base.specs.declared.cell.Kind.{Kind}
 use Rattle.ct_base.specs.declared.cell.Kind.TheVariants.{Queue, Road}

@@ -1,5 +1,5 @@
 -- Which words a signal may show (docs/signals.md). A word is cut from whole runs; this project's own.
-use Rattle.std.specs.Prelude.{◌≡◌, ℕ, ◌^◌, ◌<◌, List, [], ◌∷◌, ◌++◌, length, flat_map, replicate, EachIndex, slice_index_or}
+use Rattle.std.specs.Prelude.{◌≡◌, ℕ, ◌^◌, ◌<◌, List, [], ◌∷◌, ◌++◌, length, map, take, flat_map, replicate, EachIndex, slice_index_or}
 use Rattle.std.specs.Int.{bit_at}
 use Rattle.ct_base.specs.Access.{phase_of, signal_of}
 use Rattle.ct_base.specs.Validity.{IsBetween}
@@ -40,12 +40,34 @@ pub record IsAdmissible (signal : Signal) (word : List Letter) : Type 0 where
   pub are_runs : AreRuns signal (2 ^ signal.start) runs
   pub begins : letters_of_runs signal runs ≡ word ++ rest
 
--- the plan has one word for each signal, with a letter for each step
-pub record HasWords (net : Net) (plan : Plan) : Type 0 where
-  pub one_per_signal : length plan.words ≡ length net.signals
-  pub letters : EachIndex plan.words (λ s. length (slice_index_or plan.words s []) ≡ net.steps)
+-- the word goes on from a front: it is admissible, has the front's letters first, and n letters in all
+pub record GoesOnFrom (signal : Signal) (front word : List Letter) (n : ℕ) : Type 0 where
+  pub begins : take (length front) word ≡ front
+  pub long : length word ≡ n
+  pub admissible : IsAdmissible signal word
 
--- the plan has one admissible word for each signal, with a letter for each step
-pub record IsAdmissiblePlan (net : Net) (plan : Plan) : Type 0 where
-  pub words : HasWords net plan
-  pub each : EachIndex plan.words (λ s. IsAdmissible (signal_of net.signals s) (slice_index_or plan.words s []))
+-- the word of a signal in a plan
+abbrev pub word_of : Plan → ℕ → List Letter
+word_of plan s = slice_index_or plan.words s []
+
+-- the plan has one word for each signal, with a letter for each of the first t steps and no more
+pub record HasWordsOfLength (net : Net) (t : ℕ) (plan : Plan) : Type 0 where
+  pub one_per_signal : length plan.words ≡ length net.signals
+  pub letters : EachIndex plan.words (λ s. length (word_of plan s) ≡ t)
+
+-- the plan has one admissible word of length t for each signal
+pub record IsAdmissiblePlanOfLength (net : Net) (t : ℕ) (plan : Plan) : Type 0 where
+  pub words : HasWordsOfLength net t plan
+  pub each : EachIndex plan.words (λ s. IsAdmissible (signal_of net.signals s) (word_of plan s))
+
+-- the plan has one word for each signal, with a letter for each step of the horizon
+abbrev pub HasWords : Net → Plan → Type 0
+HasWords net plan = HasWordsOfLength net net.steps plan
+
+-- the plan has one admissible word for each signal, with a letter for each step of the horizon
+abbrev pub IsAdmissiblePlan : Net → Plan → Type 0
+IsAdmissiblePlan net plan = IsAdmissiblePlanOfLength net net.steps plan
+
+-- the front of a plan: the first t letters of each of its words
+abbrev pub front_of_plan : ℕ → Plan → Plan
+front_of_plan t plan = record { words = map (take t) plan.words }

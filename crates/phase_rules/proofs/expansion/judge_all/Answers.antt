@@ -1,10 +1,11 @@
 use Rattle.std.proofs.Common.{rules, ◌≡◌, ◌+◌, ◌<◌, ◌∙◌, Err, ap, sym, [], arith, length, map, get_or}
-use Rattle.refusals.specs.Faults.{join_below, unless}
+use Rattle.listed.specs.Below.{join_below}
+use Rattle.refusals.specs.Faults.{unless}
 use Rattle.refusals.proofs.FirstFaults.{unless_fine, unless_left, unless_place, unless_right}
-use Rattle.refusals.proofs.JoinLaws.{join_below-more, join_below-zero}
+use Rattle.listed.proofs.JoinLaws.{join_below-more, join_below-zero}
 use Rattle.std.proofs.lemmas.List.{length-map}
 use Rattle.ct_base.specs.declared.signal.Phase.{Phase}
-use Rattle.ct_base.proofs.TableLaws.{sum_below-zero}
+use Rattle.listed.proofs.SumLaws.{sum_below-zero}
 use Rattle.phase_rules.specs.Expansion.{faults_at, faults_of, run_by, short_faults}
 use Rattle.phase_rules.proofs.JudgeLaws.{begins_at_front, counted_more, faults_at_front, run_counts}
 use Rattle.phase_rules.proofs.expansion.judge_all.Goals as goal

@@ -1,6 +1,6 @@
 -- No run that was reached has a fault, and their letters are counted.
 use Rattle.std.proofs.Common.{◌≡◌, ◌+◌, ◌≤◌, [], map}
-use Rattle.refusals.specs.Faults.{join_below}
+use Rattle.listed.specs.Below.{join_below}
 use Rattle.phase_rules.specs.Expansion.{begins_at, faults_at, run_by}
 use Rattle.phase_rules.proofs.expansion.judge_all.Given as goal
 

@@ -1,7 +1,7 @@
 use Rattle.std.proofs.Common.{◌∙◌, ap, sym, length, map}
 use Rattle.refusals.specs.Faults.{unless}
 use Rattle.phase_rules.specs.Expansion.{may_be, run_by}
-use Rattle.phase_rules.specs.Judging.{faults_of_run}
+use Rattle.phase_rules.specs.inner.Judging.{faults_of_run}
 use Rattle.phase_rules.proofs.JudgeLaws.{faults_at_end}
 use Rattle.phase_rules.proofs.expansion.judge_run.Goals as goal
 

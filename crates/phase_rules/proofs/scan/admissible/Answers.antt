@@ -1,6 +1,6 @@
 use Rattle.std.proofs.Common.{◌+◌, ◌∙◌, ap, false, sym, true, arith}
 use Rattle.std.specs.Prelude.{drop}
-use Rattle.phase_rules.specs.Scan.{goes_on, passes}
+use Rattle.phase_rules.specs.inner.Scan.{goes_on, passes}
 use Rattle.phase_rules.proofs.ScanLaws.{answers_by_scan, passes_all, passes_more}
 use Rattle.phase_rules.proofs.scan.admissible.Goals as goal
 

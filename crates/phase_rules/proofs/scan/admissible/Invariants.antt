@@ -1,7 +1,7 @@
 -- The word passes where what is left of it passes.
 use Rattle.std.proofs.Common.{◌≡◌}
 use Rattle.std.specs.Prelude.{drop}
-use Rattle.phase_rules.specs.Scan.{passes}
+use Rattle.phase_rules.specs.inner.Scan.{passes}
 use Rattle.phase_rules.specs.declared.scan.Scan.TheVariants.{Start}
 use Rattle.phase_rules.proofs.scan.admissible.Given as goal
 

@@ -1,0 +1,3 @@
+pub mod Greens
+pub mod Judging
+pub mod Scan
