@@ -2,15 +2,14 @@
 use Rattle.std.proofs.Common.{◌≡◌, ◌≢◌, ℕ, ◌+◌, ◌<◌, ◌≤◌, List, [], ◌++◌, Option, Some, None, length, refl, ap, sym, ◌∙◌, arith}
 use Rattle.std.proofs.lemmas.List.{length-map}
 use Rattle.ct_base.specs.declared.cell.Cell.{Cell}
-use Rattle.ct_base.proofs.TableLaws.{sum_below-fewer, sum_below-suc}
+use Rattle.listed.proofs.SumLaws.{sum_below-fewer, sum_below-suc}
 use Rattle.network_file.specs.declared.raw.RawNet.{RawNet}
 use Rattle.network_file.specs.declared.raw.RawSignal.{RawSignal}
-use Rattle.refusals.specs.Faults.{join_below}
+use Rattle.listed.specs.Below.{join_below}
 use Rattle.cell_build.specs.Link.{cell_count, cells_at, cells_below, cells_of_link, cells_of_links, gate_of, out_by}
-use Rattle.cell_build.specs.Names.{link_of, signal_names}
+use Rattle.cell_build.specs.Names.{raw_link, signal_names}
 use Rattle.cell_build.proofs.FaultLaws.{HasNoFault, cells_are_few, signal_is_known}
-use Rattle.refusals.proofs.JoinLaws.{join_below-suc}
-use Rattle.cell_build.proofs.JoinLaws.{length-join_below}
+use Rattle.listed.proofs.JoinLaws.{join_below-suc, length-join_below}
 use Rattle.cell_build.proofs.LinkCells.{length-cells_of_link}
 use Rattle.cell_build.proofs.NumberLaws.{number_within}
 
@@ -27,29 +26,29 @@ cells_more raw k = join_below-suc k (cells_at raw.steps raw.signals raw.links)
 pub length-cells_before : (raw : RawNet) (k : ℕ) → length (cells_of_links raw.steps raw.signals raw.links k) ≡ cells_below raw.links k
 unfolding cells_of_links
 length-cells_before raw k =
-    length-join_below k (cells_at raw.steps raw.signals raw.links) (λ m. cell_count (link_of raw.links m))
-    (λ m. let link = link_of raw.links m in length-cells_of_link raw.steps (cells_below raw.links m) (out_by raw.links link.to link.turns) (gate_of raw.signals link) link)
+    length-join_below k (cells_at raw.steps raw.signals raw.links) (λ m. cell_count (raw_link raw.links m))
+    (λ m. let link = raw_link raw.links m in length-cells_of_link raw.steps (cells_below raw.links m) (out_by raw.links link.to link.turns) (gate_of raw.signals link) link)
 
 -- the cells of link k behind those of the links before it
 pub link_is_added : (raw : RawNet) (k : ℕ) (before all : List Cell) → before ≡ cells_of_links raw.steps raw.signals raw.links k →
-    all ≡ before ++ cells_of_link raw.steps (length before) (out_by raw.links (link_of raw.links k).to (link_of raw.links k).turns) (gate_of raw.signals (link_of raw.links k)) (link_of raw.links k) →
+    all ≡ before ++ cells_of_link raw.steps (length before) (out_by raw.links (raw_link raw.links k).to (raw_link raw.links k).turns) (gate_of raw.signals (raw_link raw.links k)) (raw_link raw.links k) →
     all ≡ cells_of_links raw.steps raw.signals raw.links (k + 1)
 link_is_added raw k before all is added =
     let count : length before ≡ cells_below raw.links k = ap length is ∙ length-cells_before raw k in
-    let link = link_of raw.links k in
+    let link = raw_link raw.links k in
     added ∙ ap (λ first. before ++ cells_of_link raw.steps first (out_by raw.links link.to link.turns) (gate_of raw.signals link) link) count
     ∙ ap (λ cells. cells ++ cells_at raw.steps raw.signals raw.links k) is ∙ sym (cells_more raw k)
 
 -- the cells up to link k are few
-pub link_is_few : (raw : RawNet) (k : ℕ) → HasNoFault raw → k < length raw.links → length (cells_of_links raw.steps raw.signals raw.links k) + cell_count (link_of raw.links k) ≤ 256
+pub link_is_few : (raw : RawNet) (k : ℕ) → HasNoFault raw → k < length raw.links → length (cells_of_links raw.steps raw.signals raw.links k) + cell_count (raw_link raw.links k) ≤ 256
 link_is_few raw k fine within =
-    omega (arith, length-cells_before raw k, cells_are_few raw fine, sum_below-suc k (λ m. cell_count (link_of raw.links m)), sum_below-fewer (k + 1) (length raw.links) (λ m. cell_count (link_of raw.links m)) (omega arith))
+    omega (arith, length-cells_before raw k, cells_are_few raw fine, sum_below-suc k (λ m. cell_count (raw_link raw.links m)), sum_below-fewer (k + 1) (length raw.links) (λ m. cell_count (raw_link raw.links m)) (omega arith))
 
 -- a link that names a signal finds one
-pub has_signals : (raw : RawNet) (k : ℕ) → HasNoFault raw → k < length raw.links → (link_of raw.links k).signal ≢ None → 0 < length raw.signals
-has_signals raw k fine within gated = by_signal (link_of raw.links k).signal refl
+pub has_signals : (raw : RawNet) (k : ℕ) → HasNoFault raw → k < length raw.links → (raw_link raw.links k).signal ≢ None → 0 < length raw.signals
+has_signals raw k fine within gated = by_signal (raw_link raw.links k).signal refl
   where
-    by_signal : (signal : Option (List ℕ)) → (link_of raw.links k).signal ≡ signal → 0 < length raw.signals
+    by_signal : (signal : Option (List ℕ)) → (raw_link raw.links k).signal ≡ signal → 0 < length raw.signals
     by_signal None none = absurd (gated none)
     by_signal (Some name) named =
         omega (arith, number_within (signal_names raw.signals) name (signal_is_known raw k name fine within named), length-map raw.signals (λ (signal : RawSignal). signal.name))

@@ -1,50 +1,62 @@
 -- What the demand of a link tells of its faults.
-use Rattle.std.proofs.Common.{◌≡◌, ℕ, zero, suc, List, [], ◌∷◌, length, map, Ok, Err, refl, ap, sym, arith}
+use Rattle.std.proofs.Common.{◌≡◌, inl, inr, ℕ, ◌<◌, List, [], ◌∷◌, length, get_or, map, Some, None, Ok, Err, refl, ap, ◌∙◌, arith}
 use Rattle.demand.specs.declared.piece.Piece.{Piece}
 use Rattle.demand.specs.declared.fault.DemandFault.{DemandFault}
 use Rattle.demand.specs.declared.fault.DemandFault.TheVariants.{Heavy, Range}
 use Rattle.demand.specs.declared.fault.DemandFault.TheVariants as demand
-use Rattle.demand.specs.Spread.{Gives, faults_of, heavy_faults_at, rates_of, spread}
-use Rattle.refusals.specs.Faults.{join_below}
-use Rattle.refusals.proofs.FirstFaults.{BeginsWith, unless_fine, unless_made, unless_refused}
-use Rattle.cell_build.specs.Built.{IsFirst}
-use Rattle.cell_build.specs.Queues.{fault_of}
-use Rattle.cell_build.specs.declared.fault.BuildFault.{BuildFault}
-use Rattle.cell_build.specs.declared.fault.BuildFault.TheVariants.{Demand}
+use Rattle.demand.specs.Spread.{faults_of, heavy_at, rates_of, spread}
+use Rattle.demand.proofs.DemandLaws.{length-rates_of, slice_index-rates_of}
+use Rattle.refusals.specs.Faults.{unless}
+use Rattle.refusals.specs.Memory.{OrMemory}
+use Rattle.refusals.proofs.Items.{per_item_of_none}
+use Rattle.refusals.proofs.Memory.{made_without_fault}
+use Rattle.std.proofs.lemmas.List.{get_or_default}
+use Rattle.cell_build.specs.inner.Queues.{fault_of, queue_demand}
+use Rattle.cell_build.specs.declared.fault.BuildFault.TheVariants.{Demand, Memory}
 
--- what is made of a list that begins with a fault begins with what is made of the fault
-map_begins : (k : ℕ) (e : DemandFault) (faults : List DemandFault) → BeginsWith e faults → (rest : List BuildFault) × (map (Demand k) faults ≡ Demand k e ∷ rest)
-map_begins k e faults begins = (map (Demand k) begins.0, ap (map (Demand k)) begins.1)
+-- what is made of pieces without a fault is made of them as a link's
+made_of_link : (k : ℕ) (faults : List DemandFault) (units rates : List ℕ) → Ok units ≡ unless faults rates → Ok units ≡ unless (map (Demand k) faults) rates
+made_of_link k [] units rates is = ap Ok (cc)
+made_of_link k (e ∷ faults) units rates is = absurd (cc)
 
--- the demand is refused with its first fault
-refused_with : (pieces : List Piece) (steps : ℕ) (e : DemandFault) → spread pieces steps ≡ Err e → BeginsWith e (faults_of pieces steps)
+-- the first fault of pieces is the first of a link with them
+refused_of_link : (k : ℕ) (e : DemandFault) (faults : List DemandFault) (rates : List ℕ) → Err e ≡ unless faults rates → Err (Demand k e) ≡ unless (map (Demand k) faults) rates
+refused_of_link k e [] rates is = absurd (cc)
+refused_of_link k e (first ∷ faults) rates is = let same : e ≡ first = cc in ap (λ e. Err (Demand k e)) same
+
+-- a demand that is given
+pub demand_given : (k : ℕ) (pieces : List Piece) (steps : ℕ) (units : List ℕ) → OrMemory demand.Memory (spread pieces steps) (Ok units) → OrMemory Memory (unless (map (Demand k) (faults_of pieces steps)) (rates_of pieces steps)) (Ok units)
 unfolding spread
-refused_with pieces steps e refused = unless_refused (faults_of pieces steps) (rates_of pieces steps) e (sym refused)
+demand_given k pieces steps units (inl is) = inl (made_of_link k (faults_of pieces steps) units (rates_of pieces steps) is)
+demand_given k pieces steps units (inr wanting) = absurd (cc)
 
-pub demand_refused : (k : ℕ) (pieces : List Piece) (steps : ℕ) (e : DemandFault) → Gives (Err e) (spread pieces steps) → IsFirst (fault_of k e) (map (Demand k) (faults_of pieces steps))
-demand_refused k pieces steps (Range piece) gives = map_begins k (Range piece) (faults_of pieces steps) (refused_with pieces steps (Range piece) gives)
-demand_refused k pieces steps (Heavy step) gives = map_begins k (Heavy step) (faults_of pieces steps) (refused_with pieces steps (Heavy step) gives)
-demand_refused k pieces steps demand.Memory gives = tt
-
--- a demand that is given has no fault, and is the sum of the pieces
-pub demand_fine : (k : ℕ) (pieces : List Piece) (steps : ℕ) (units : List ℕ) → spread pieces steps ≡ Ok units → map (Demand k) (faults_of pieces steps) ≡ []
+-- a demand that is refused, and want of memory
+pub demand_refused : (k : ℕ) (pieces : List Piece) (steps : ℕ) (e : DemandFault) → OrMemory demand.Memory (spread pieces steps) (Err e) → OrMemory Memory (unless (map (Demand k) (faults_of pieces steps)) (rates_of pieces steps)) (Err (fault_of k e))
 unfolding spread
-demand_fine k pieces steps units given = ap (map (Demand k)) (unless_fine (faults_of pieces steps) (rates_of pieces steps) units (sym given))
-
-pub demand_made : (pieces : List Piece) (steps : ℕ) (units : List ℕ) → spread pieces steps ≡ Ok units → units ≡ rates_of pieces steps
-unfolding spread
-demand_made pieces steps units given = (unless_made (faults_of pieces steps) (rates_of pieces steps) units (sym given)).1
+demand_refused k pieces steps demand.Memory refused = inr refl
+demand_refused k pieces steps (Range piece) (inl is) = inl (refused_of_link k (Range piece) (faults_of pieces steps) (rates_of pieces steps) is)
+demand_refused k pieces steps (Range piece) (inr wanting) = absurd (cc)
+demand_refused k pieces steps (Heavy step) (inl is) = inl (refused_of_link k (Heavy step) (faults_of pieces steps) (rates_of pieces steps) is)
+demand_refused k pieces steps (Heavy step) (inr wanting) = absurd (cc)
 
 -- where there is no piece, no step is heavy
-no_heavy : (n : ℕ) → join_below n (heavy_faults_at []) ≡ []
-unfolding join_below
-no_heavy zero = refl
-no_heavy (suc n) = rw (no_heavy n)
-
 none_of_none : (steps : ℕ) → faults_of [] steps ≡ []
-unfolding faults_of join_below
-none_of_none steps = no_heavy steps
+unfolding faults_of
+none_of_none steps = per_item_of_none (rates_of [] steps) heavy_at (λ t d within.
+    let rates = rates_of [] steps in
+    let there : t < steps = rw (length-rates_of [] steps) at within in
+    let units : get_or rates t d ≡ 0 = get_or_default rates t d 0 within ∙ slice_index-rates_of [] steps t there in
+    rw units)
 
-pub no_piece_no_fault : (pieces : List Piece) (steps k : ℕ) → length pieces ≡ 0 → map (Demand k) (faults_of pieces steps) ≡ []
-no_piece_no_fault [] steps k none = ap (map (Demand k)) (none_of_none steps)
-no_piece_no_fault (piece ∷ pieces) steps k none = absurd (omega arith)
+-- no pieces are no demand, and have no fault
+pub no_piece_no_demand : (pieces : List Piece) (steps k : ℕ) → length pieces ≡ 0 → Ok None ≡ unless (map (Demand k) (faults_of pieces steps)) (queue_demand steps pieces)
+no_piece_no_demand [] steps k none = rw (none_of_none steps)
+no_piece_no_demand (piece ∷ pieces) steps k none = absurd (omega arith)
+
+-- the sum of pieces is the demand of the queue
+pub sum_is_demand : (k : ℕ) (pieces : List Piece) (steps : ℕ) (units : List ℕ) → 0 < length pieces →
+    OrMemory Memory (unless (map (Demand k) (faults_of pieces steps)) (rates_of pieces steps)) (Ok units) → OrMemory Memory (unless (map (Demand k) (faults_of pieces steps)) (queue_demand steps pieces)) (Ok (Some units))
+sum_is_demand k [] steps units some sum = absurd (omega arith)
+sum_is_demand k (piece ∷ pieces) steps units some sum =
+    let made = made_without_fault Memory (map (Demand k) (faults_of (piece ∷ pieces) steps)) (rates_of (piece ∷ pieces) steps) units sum in
+    inl (rw (made.0, made.1) refl)

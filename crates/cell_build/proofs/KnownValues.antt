@@ -1,7 +1,7 @@
 -- Networks worked by hand: two arms that meet behind a signal, and a link with units on it that splits over two. As
 -- `build` answers exactly what the definitions say, these are its answers too.
 use Rattle.std.proofs.Common.{◌≡◌, ℕ, List, [], ◌∷◌, Option, Some, None, codes, refl}
-use Rattle.ct_base.specs.Tables.{sum_below, table_of}
+use Rattle.listed.specs.Below.{sum_below, table_of, join_below}
 use Rattle.ct_base.specs.declared.cell.Cell.{Cell}
 use Rattle.ct_base.specs.declared.cell.Gate.{Gate}
 use Rattle.ct_base.specs.declared.cell.Kind.TheVariants.{Road}
@@ -10,11 +10,10 @@ use Rattle.ct_base.specs.declared.cell.Out.TheVariants.{Exit, To, Turns}
 use Rattle.network_file.specs.declared.raw.RawNet.{RawNet}
 use Rattle.network_file.specs.declared.raw.RawLink.{RawLink}
 use Rattle.cell_build.specs.Built.{named_of}
-use Rattle.refusals.specs.Faults.{join_below}
 use Rattle.cell_build.specs.Naming.{places_of}
 use Rattle.cell_build.specs.Link.{cells_of_link, cells_of_links}
-use Rattle.cell_build.specs.Refusals.{both_outs, demands, faults_of, fed_queues, initial_units, loops, many_cells, open_merges, phase_rules, twice_turns, unknown_links, unknown_phases, unknown_signals}
-use Rattle.demand.specs.Spread.{faults_of as demand_faults}
+use Rattle.cell_build.specs.Refusals.{demand, faults_of, fed, initial_units, itself, many_cells, open_merge, out_both, phase, twice_turn, unknown_link, unknown_phase, unknown_signal}
+use Rattle.demand.specs.Spread.{faults_of as demand_faults, rates_of}
 
 -- a link of cells of capacity 3 and storage 5, which leads out of the network
 abbrev road : List ℕ → ℕ → RawLink
@@ -87,9 +86,9 @@ a_link_splits_over_two = refl
 
 -- neither has a fault
 pub the_crossing_has_no_fault : faults_of crossing ≡ []
-unfolding unknown_links unknown_signals unknown_phases both_outs loops twice_turns fed_queues open_merges initial_units many_cells demands demand_faults phase_rules join_below sum_below
+unfolding unknown_link unknown_signal unknown_phase out_both itself twice_turn fed open_merge initial_units many_cells demand demand_faults rates_of phase sum_below table_of
 the_crossing_has_no_fault = refl
 
 pub the_fork_has_no_fault : faults_of fork ≡ []
-unfolding unknown_links unknown_signals unknown_phases both_outs loops twice_turns fed_queues open_merges initial_units many_cells demands demand_faults phase_rules join_below sum_below
+unfolding unknown_link unknown_signal unknown_phase out_both itself twice_turn fed open_merge initial_units many_cells demand demand_faults rates_of phase sum_below table_of
 the_fork_has_no_fault = refl

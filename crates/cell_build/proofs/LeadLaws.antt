@@ -9,7 +9,7 @@ use Rattle.ct_base.specs.Access.{targets}
 use Rattle.network_file.specs.declared.raw.RawNet.{RawNet}
 use Rattle.network_file.specs.declared.raw.RawLink.{RawLink}
 use Rattle.cell_build.specs.Link.{first_road, out_by, road_named}
-use Rattle.cell_build.specs.Names.{is_unknown, link_names, link_of, name_in, no_link, number_of}
+use Rattle.cell_build.specs.Names.{is_unknown, link_names, raw_link, name_in, no_link, number_of}
 use Rattle.cell_build.specs.Refusals.{leads_to}
 use Rattle.cell_build.proofs.FaultLaws.{turn_of, HasNoFault, branch_is_new, leads_elsewhere, to_is_known, turn_is_known}
 use Rattle.cell_build.proofs.NumberLaws.{get_or-number_of, is_among, not_among, number_within}
@@ -32,28 +32,28 @@ leads_to_named link name (inr (j, within, is)) =
     list_any-append (bytes_eq name) (name_in link.to) branches ∙ or_right (list_any (bytes_eq name) (name_in link.to)) (list_any (bytes_eq name) branches) among
 
 -- what it names is there
-named_is_known : (raw : RawNet) (k : ℕ) (name : List ℕ) → HasNoFault raw → k < length raw.links → Names (link_of raw.links k) name → is_unknown (link_names raw.links) name ≡ false
+named_is_known : (raw : RawNet) (k : ℕ) (name : List ℕ) → HasNoFault raw → k < length raw.links → Names (raw_link raw.links k) name → is_unknown (link_names raw.links) name ≡ false
 named_is_known raw k name fine within (inl to) = to_is_known raw k name fine within to
 named_is_known raw k name fine within (inr (j, there, is)) = ap (is_unknown (link_names raw.links)) (sym is) ∙ turn_is_known raw k j fine within there
 
 -- link k leads into link m, which is another
 pub record LeadsInto (links : List RawLink) (k m : ℕ) : Type 0 where
   pub within : m < length links
-  pub leads : leads_to (link_of links k) (link_of links m).name ≡ true
+  pub leads : leads_to (raw_link links k) (raw_link links m).name ≡ true
   pub other : m ≢ k
 
 -- the name of the link with a number
-pub name_of_link : (links : List RawLink) (m : ℕ) (d : List ℕ) → m < length links → get_or (link_names links) m d ≡ (link_of links m).name
+pub name_of_link : (links : List RawLink) (m : ℕ) (d : List ℕ) → m < length links → get_or (link_names links) m d ≡ (raw_link links m).name
 name_of_link links m d within = get_or-map (λ (link : RawLink). link.name) links m no_link d within
 
 -- what link k names is a link that it leads into
-named_is_led_into : (raw : RawNet) (k : ℕ) (name : List ℕ) → HasNoFault raw → k < length raw.links → Names (link_of raw.links k) name → LeadsInto raw.links k (number_of (link_names raw.links) name)
+named_is_led_into : (raw : RawNet) (k : ℕ) (name : List ℕ) → HasNoFault raw → k < length raw.links → Names (raw_link raw.links k) name → LeadsInto raw.links k (number_of (link_names raw.links) name)
 named_is_led_into raw k name fine within names =
     let m = number_of (link_names raw.links) name in
     let known : is_unknown (link_names raw.links) name ≡ false = named_is_known raw k name fine within names in
     let there : m < length raw.links = omega (arith, number_within (link_names raw.links) name known, length-map raw.links (λ (link : RawLink). link.name)) in
-    let own : (link_of raw.links m).name ≡ name = sym (name_of_link raw.links m [] there) ∙ get_or-number_of (link_names raw.links) name [] known in
-    let leads : leads_to (link_of raw.links k) (link_of raw.links m).name ≡ true = rw own (leads_to_named (link_of raw.links k) name names) in
+    let own : (raw_link raw.links m).name ≡ name = sym (name_of_link raw.links m [] there) ∙ get_or-number_of (link_names raw.links) name [] known in
+    let leads : leads_to (raw_link raw.links k) (raw_link raw.links m).name ≡ true = rw own (leads_to_named (raw_link raw.links k) name names) in
     record {
       within = there;
       leads = leads;
@@ -81,17 +81,17 @@ abbrev pub IsRoadInto : List RawLink → ℕ → ℕ → Type 0
 IsRoadInto links k t = (m : ℕ) × LeadsInto links k m × (t ≡ first_road links m)
 
 pub targets_are_roads : (raw : RawNet) (k : ℕ) → HasNoFault raw → k < length raw.links →
-    All (IsRoadInto raw.links k) (targets (out_by raw.links (link_of raw.links k).to (link_of raw.links k).turns))
+    All (IsRoadInto raw.links k) (targets (out_by raw.links (raw_link raw.links k).to (raw_link raw.links k).turns))
 targets_are_roads raw k fine within = λ i d there.
-    let link = link_of raw.links k in
+    let link = raw_link raw.links k in
     let road = target_is_road raw.links link link.to link.turns i d refl refl there in
     (number_of (link_names raw.links) road.0, named_is_led_into raw k road.0 fine within road.1, road.2)
 
 -- the links that two branches name differ
-pub branches_differ : (raw : RawNet) (k i j : ℕ) → HasNoFault raw → k < length raw.links → i < j → j < length (link_of raw.links k).turns →
-    number_of (link_names raw.links) (turn_of (link_of raw.links k) i) ≢ number_of (link_names raw.links) (turn_of (link_of raw.links k) j)
+pub branches_differ : (raw : RawNet) (k i j : ℕ) → HasNoFault raw → k < length raw.links → i < j → j < length (raw_link raw.links k).turns →
+    number_of (link_names raw.links) (turn_of (raw_link raw.links k) i) ≢ number_of (link_names raw.links) (turn_of (raw_link raw.links k) j)
 branches_differ raw k i j fine within before there same =
-    let link = link_of raw.links k in
+    let link = raw_link raw.links k in
     let names = link_names raw.links in
     let early = map (λ (turn : List ℕ × ℕ). turn.0) (take j link.turns) in
     let long : length (take j link.turns) ≡ j = length-take-le j link.turns (omega arith) in
@@ -105,6 +105,6 @@ branches_differ raw k i j fine within before there same =
     not_among (turn_of link j) early i [] (branch_is_new raw k j fine within there) (rw length-map within_early) (is ∙ same_name)
 
 -- the link that a branch names is there
-pub named_within : (raw : RawNet) (k j : ℕ) → HasNoFault raw → k < length raw.links → j < length (link_of raw.links k).turns → number_of (link_names raw.links) (turn_of (link_of raw.links k) j) < length raw.links
+pub named_within : (raw : RawNet) (k j : ℕ) → HasNoFault raw → k < length raw.links → j < length (raw_link raw.links k).turns → number_of (link_names raw.links) (turn_of (raw_link raw.links k) j) < length raw.links
 named_within raw k j fine within there =
-    omega (arith, number_within (link_names raw.links) (turn_of (link_of raw.links k) j) (turn_is_known raw k j fine within there), length-map raw.links (λ (link : RawLink). link.name))
+    omega (arith, number_within (link_names raw.links) (turn_of (raw_link raw.links k) j) (turn_is_known raw k j fine within there), length-map raw.links (λ (link : RawLink). link.name))

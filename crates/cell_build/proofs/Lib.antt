@@ -1,10 +1,7 @@
 pub mod BuildLaws
-pub mod CountLaws
 pub mod DemandLaws
 pub mod FaultLaws
 pub mod FirstLaws
-pub mod JoinLaws
-pub mod Judgements
 pub mod KnownSignals
 pub mod KnownValues
 pub mod LeadLaws
@@ -19,4 +16,5 @@ pub mod NumberedLaws
 pub mod PlaceLaws
 pub mod QueueLaws
 pub mod SignalLaws
+pub mod SpelledLaws
 pub mod TableSteps

@@ -3,14 +3,14 @@ use Rattle.std.proofs.Common.{◌≡◌, inl, inr, ℕ, zero, suc, ◌+◌, ◌-
 use Rattle.std.proofs.lemmas.Bool.{cases_lt, lt-ltb, le-ltb}
 use Rattle.std.proofs.lemmas.List.{length-append, get_or_append_left, get_or-append_right}
 use Rattle.ct_base.specs.Access.{cell_of, no_cell}
-use Rattle.ct_base.specs.Tables.{table_of}
+use Rattle.listed.specs.Below.{table_of}
 use Rattle.ct_base.specs.Validity.{IsBetween, IsOfKind, IsQueue, IsRoad}
 use Rattle.ct_base.specs.declared.cell.Cell.{Cell}
 use Rattle.ct_base.specs.declared.cell.Gate.{Gate}
-use Rattle.ct_base.specs.declared.cell.Kind.TheVariants.{Road}
+use Rattle.ct_base.specs.declared.cell.Kind.TheVariants.{Queue, Road}
 use Rattle.ct_base.specs.declared.cell.Out.{Out}
 use Rattle.ct_base.specs.declared.cell.Out.TheVariants.{To}
-use Rattle.ct_base.proofs.TableLaws.{length-table_of, get_or-table_of}
+use Rattle.listed.proofs.TableLaws.{length-table_of, get_or-table_of}
 use Rattle.network_file.specs.Range.{IsLinkInRange}
 use Rattle.demand.specs.declared.piece.Piece.{Piece}
 use Rattle.network_file.specs.declared.raw.RawLink.{RawLink}
@@ -28,6 +28,7 @@ pub record IsFit (steps : ℕ) (link : RawLink) : Type 0 where
 pub record IsLinkCell (steps first : ℕ) (last : Out) (gate : Option Gate) (link : RawLink) (j : ℕ) (cell : Cell) : Type 0 where
   pub cap : IsBetween 1 1000 cell.cap
   pub kind : IsOfKind cell.kind steps cell
+  pub queue : j < queue_count link.pieces → cell.kind ≡ Queue
   pub road : queue_count link.pieces ≤ j → cell.kind ≡ Road
   pub inner : j + 1 < cell_count link → cell.out ≡ To (first + (j + 1))
   pub inner_gate : j + 1 < cell_count link → cell.gate ≡ None
@@ -120,6 +121,7 @@ queue_is_link_cell steps first last gate link j fit within =
     record {
       cap = fit.in_range.cap;
       kind = queue_is_queue steps (first + queue_count link.pieces) link fit;
+      queue = λ before. refl;
       road = λ after. absurd (omega arith);
       inner = λ before. ap (λ n. To (first + n)) one;
       inner_gate = λ before. refl;
@@ -133,6 +135,7 @@ inner_is_link_cell : (steps first : ℕ) (last : Out) (gate : Option Gate) (link
 inner_is_link_cell steps first last gate link i fit within = record {
   cap = fit.in_range.cap;
   kind = road_is_road steps i None (To (first + queue_count link.pieces + (i + 1))) link fit (omega arith);
+  queue = λ before. absurd (omega arith);
   road = λ _. refl;
   inner = λ before. ap To (omega arith);
   inner_gate = λ before. refl;
@@ -145,6 +148,7 @@ last_is_link_cell : (steps first : ℕ) (last : Out) (gate : Option Gate) (link 
 last_is_link_cell steps first last gate link i fit is_last = record {
   cap = fit.in_range.cap;
   kind = road_is_road steps i gate last link fit (omega arith);
+  queue = λ before. absurd (omega arith);
   road = λ _. refl;
   inner = λ before. absurd (omega arith);
   inner_gate = λ before. absurd (omega arith);

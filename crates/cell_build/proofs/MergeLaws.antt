@@ -9,7 +9,7 @@ use Rattle.network_file.specs.declared.raw.RawNet.{RawNet}
 use Rattle.network_file.specs.declared.raw.RawLink.{RawLink}
 use Rattle.demand.specs.declared.piece.Piece.{Piece}
 use Rattle.cell_build.specs.Link.{gate_of, queue_count}
-use Rattle.cell_build.specs.Names.{link_of, no_link}
+use Rattle.cell_build.specs.Names.{raw_link, no_link}
 use Rattle.cell_build.specs.Refusals.{are_apart, feeders, is_apart, is_empty, leads_to}
 use Rattle.cell_build.proofs.FaultLaws.{HasNoFault, feeders_are_apart, queue_is_not_fed}
 
@@ -68,21 +68,21 @@ apart_both_ways None None apart = apart
 
 -- two links that lead into a third have gates apart
 earlier_is_apart : (raw : RawNet) (m a b : ℕ) → HasNoFault raw → m < length raw.links → a < b → b < length raw.links →
-    leads_to (link_of raw.links a) (link_of raw.links m).name ≡ true → leads_to (link_of raw.links b) (link_of raw.links m).name ≡ true →
-    AreApart (gate_of raw.signals (link_of raw.links a)) (gate_of raw.signals (link_of raw.links b))
+    leads_to (raw_link raw.links a) (raw_link raw.links m).name ≡ true → leads_to (raw_link raw.links b) (raw_link raw.links m).name ≡ true →
+    AreApart (gate_of raw.signals (raw_link raw.links a)) (gate_of raw.signals (raw_link raw.links b))
 earlier_is_apart raw m a b fine there before within first second =
-    apart_from (gate_of raw.signals (link_of raw.links a)) (gate_of raw.signals (link_of raw.links b))
-    (two_apart (gate_of raw.signals) (λ (link : RawLink). leads_to link (link_of raw.links m).name) raw.links a b no_link (feeders_are_apart raw m fine there) before within first second)
+    apart_from (gate_of raw.signals (raw_link raw.links a)) (gate_of raw.signals (raw_link raw.links b))
+    (two_apart (gate_of raw.signals) (λ (link : RawLink). leads_to link (raw_link raw.links m).name) raw.links a b no_link (feeders_are_apart raw m fine there) before within first second)
 
 pub feeders_apart : (raw : RawNet) (m a b : ℕ) → HasNoFault raw → m < length raw.links → a < length raw.links → b < length raw.links → a ≢ b →
-    leads_to (link_of raw.links a) (link_of raw.links m).name ≡ true → leads_to (link_of raw.links b) (link_of raw.links m).name ≡ true →
-    AreApart (gate_of raw.signals (link_of raw.links a)) (gate_of raw.signals (link_of raw.links b))
+    leads_to (raw_link raw.links a) (raw_link raw.links m).name ≡ true → leads_to (raw_link raw.links b) (raw_link raw.links m).name ≡ true →
+    AreApart (gate_of raw.signals (raw_link raw.links a)) (gate_of raw.signals (raw_link raw.links b))
 feeders_apart raw m a b fine there a_within b_within differ first second =
     elim (cases_order a b) [
       | inl same ↦ absurd (differ same)
       | inr (inl before) ↦ earlier_is_apart raw m a b fine there before b_within first second
       | inr (inr after) ↦
-          apart_both_ways (gate_of raw.signals (link_of raw.links b)) (gate_of raw.signals (link_of raw.links a)) (earlier_is_apart raw m b a fine there after a_within second first)
+          apart_both_ways (gate_of raw.signals (raw_link raw.links b)) (gate_of raw.signals (raw_link raw.links a)) (earlier_is_apart raw m b a fine there after a_within second first)
     ]
 
 -- a link that is led into has no queue
@@ -90,11 +90,11 @@ no_queue : (pieces : List Piece) → is_empty pieces ≡ true → queue_count pi
 no_queue [] none = refl
 no_queue (piece ∷ pieces) none = absurd (false≢true none)
 
-pub fed_has_no_queue : (raw : RawNet) (m a : ℕ) → HasNoFault raw → m < length raw.links → a < length raw.links → leads_to (link_of raw.links a) (link_of raw.links m).name ≡ true →
-    queue_count (link_of raw.links m).pieces ≡ 0
+pub fed_has_no_queue : (raw : RawNet) (m a : ℕ) → HasNoFault raw → m < length raw.links → a < length raw.links → leads_to (raw_link raw.links a) (raw_link raw.links m).name ≡ true →
+    queue_count (raw_link raw.links m).pieces ≡ 0
 fed_has_no_queue raw m a fine there within leads =
-    let name = (link_of raw.links m).name in
-    let pieces = (link_of raw.links m).pieces in
+    let name = (raw_link raw.links m).name in
+    let pieces = (raw_link raw.links m).pieces in
     let some : is_empty (feeders raw.links name) ≡ false = some_pass (λ (link : RawLink). leads_to link name) raw.links a no_link within leads in
     no_queue pieces (elim (and_cases (not (is_empty pieces)) (not (is_empty (feeders raw.links name))) (queue_is_not_fed raw m fine there)) [
       | inl none ↦ not-false (is_empty pieces) none

@@ -1,10 +1,12 @@
 -- The names of a network that is read and has no fault fit it.
-use Rattle.std.proofs.Common.{◌≡◌, ℕ, ◌<◌, true, List, [], ◌∷◌, length, map, Some, All, refl, sym, ap, ◌∙◌, arith}
-use Rattle.std.proofs.lemmas.List.{get_or-map, length-append, length-map}
+use Rattle.std.proofs.Common.{◌≡◌, inl, inr, ℕ, zero, suc, ◌+◌, ◌-◌, ◌<◌, true, List, [], ◌∷◌, length, get_or, map, Some, None, All, refl, subst, sym, ap, ◌∙◌, arith}
+use Rattle.std.proofs.lemmas.Bool.{cases_lt}
+use Rattle.std.proofs.lemmas.List.{get_or_append_left, get_or-append_right, get_or-map, length-append, length-map}
 use Rattle.std.proofs.lemmas.List.Elements.{All-map, All-append}
-use Rattle.ct_base.specs.Access.{signal_of as built_signal}
-use Rattle.ct_base.specs.Tables.{table_of}
-use Rattle.ct_base.proofs.TableLaws.{get_or-table_of, length-table_of}
+use Rattle.ct_base.specs.Access.{cell_of, signal_of as built_signal}
+use Rattle.ct_base.specs.declared.cell.Kind.TheVariants.{Queue, Road}
+use Rattle.listed.specs.Below.{table_of}
+use Rattle.listed.proofs.TableLaws.{get_or-table_of, length-table_of}
 use Rattle.demand.specs.declared.piece.Piece.{Piece}
 use Rattle.network_file.specs.Range.{IsInRange, IsSignalInRange, all_differ}
 use Rattle.network_file.specs.declared.raw.RawNet.{RawNet}
@@ -14,15 +16,16 @@ use Rattle.network_file.specs.declared.raw.RawPhase.{RawPhase}
 use Rattle.texts.specs.Names.{is_name}
 use Rattle.cell_build.specs.Built.{named_of, signal_built}
 use Rattle.cell_build.specs.Link.{cell_count, cells_below, queue_count}
-use Rattle.cell_build.specs.Names.{link_of, no_signal, signal_of}
-use Rattle.cell_build.specs.Naming.{AreSignalNames, IsNamed, names_of_signal, places_of, places_of_link, queue_place}
+use Rattle.cell_build.specs.Names.{link_names, raw_link, no_signal, raw_signal}
+use Rattle.named_net.specs.Naming.{AreInLinks, AreSignalNames, IsNamed, IsPlaced, NameTable, place_at}
+use Rattle.cell_build.specs.Naming.{names_of, names_of_signal, places_of, places_of_link, queue_place}
 use Rattle.cell_build.specs.Refusals.{faults_of}
-use Rattle.cell_build.specs.declared.naming.Place.{Place}
-use Rattle.cell_build.specs.declared.naming.SignalNames.{SignalNames}
-use Rattle.cell_build.proofs.JoinLaws.{length-join_below}
-use Rattle.refusals.proofs.JoinLaws.{All-join_below}
+use Rattle.named_net.specs.declared.names.Place.{Place}
+use Rattle.named_net.specs.declared.names.SignalNames.{SignalNames}
+use Rattle.listed.proofs.JoinLaws.{get_or-join_below, length-join_below, All-join_below}
+use Rattle.cell_build.proofs.FaultLaws.{HasNoFault, has_no_fault}
 use Rattle.cell_build.proofs.NetworkLaws.{named_is_valid}
-use Rattle.cell_build.proofs.PlaceLaws.{length-cells_of}
+use Rattle.cell_build.proofs.PlaceLaws.{IsAt, cell_is_link_cell, cells_of, length-cells_of, place_of}
 use Rattle.cell_build.proofs.SignalLaws.{count_of_phases, signals_of}
 
 -- a link has as many places as cells
@@ -35,7 +38,7 @@ length-places_of_link k link = rw (length-append, length-queue_place k link.piec
 
 pub length-places_of : (links : List RawLink) → length (places_of links) ≡ cells_below links (length links)
 unfolding places_of
-length-places_of links = length-join_below (length links) (λ k. places_of_link k (link_of links k)) (λ k. cell_count (link_of links k)) (λ k. length-places_of_link k (link_of links k))
+length-places_of links = length-join_below (length links) (λ k. places_of_link k (raw_link links k)) (λ k. cell_count (raw_link links k)) (λ k. length-places_of_link k (raw_link links k))
 
 -- each place of link k is one of a link that is there
 queue_place_is_of : (k n : ℕ) (pieces : List Piece) → k < n → All (λ (place : Place). place.link < n) (queue_place k pieces)
@@ -53,8 +56,64 @@ places_of_link_are_of k n link within =
 places_are_of : (links : List RawLink) → All (λ (place : Place). place.link < length links) (places_of links)
 unfolding places_of
 places_are_of links =
-    All-join_below (λ (place : Place). place.link < length links) (length links) (λ k. places_of_link k (link_of links k))
-    (λ k within. places_of_link_are_of k (length links) (link_of links k) within)
+    All-join_below (λ (place : Place). place.link < length links) (length links) (λ k. places_of_link k (raw_link links k))
+    (λ k within. places_of_link_are_of k (length links) (raw_link links k) within)
+
+-- the places of the cells are in links that are there
+pub are_in_links : (links : List RawLink) (names : NameTable) → names.links ≡ link_names links → names.places ≡ places_of links → AreInLinks names
+are_in_links links names same_links same_places = rw (same_links, same_places, length-map) (places_are_of links)
+
+-- a road cell's place
+abbrev road_place : ℕ → ℕ → Place
+road_place k i = record { link = k; road = Some i }
+
+-- the place of the queue of link k
+queue_place_at : (k : ℕ) (pieces : List Piece) (i : ℕ) (d : Place) → i < queue_count pieces → get_or (queue_place k pieces) i d ≡ record { link = k; road = None }
+queue_place_at k [] i d within = absurd (omega arith)
+queue_place_at k (piece ∷ pieces) zero d within = refl
+queue_place_at k (piece ∷ pieces) (suc i) d within = absurd (omega arith)
+
+place_of_queue : (k : ℕ) (link : RawLink) (i : ℕ) (d : Place) → i < queue_count link.pieces → get_or (places_of_link k link) i d ≡ record { link = k; road = None }
+place_of_queue k link i d within =
+    let there : i < length (queue_place k link.pieces) = omega (arith, length-queue_place k link.pieces) in
+    get_or_append_left (queue_place k link.pieces) (table_of link.cells (road_place k)) d i there ∙ queue_place_at k link.pieces i d within
+
+-- the place of its road cell i
+place_of_road : (k : ℕ) (link : RawLink) (i : ℕ) (d : Place) → i < link.cells → get_or (places_of_link k link) (queue_count link.pieces + i) d ≡ road_place k i
+place_of_road k link i d within =
+    let here : queue_count link.pieces + i - queue_count link.pieces ≡ i = omega arith in
+    get_or-append_right (queue_place k link.pieces) (table_of link.cells (road_place k)) (queue_count link.pieces) (queue_count link.pieces + i) d (length-queue_place k link.pieces) (omega arith)
+    ∙ ap (λ m. get_or (table_of link.cells (road_place k)) m d) here ∙ get_or-table_of link.cells (road_place k) i d within
+
+-- cell j of the network, which is cell i of link k, has the place of that cell
+place_of_cell : (links : List RawLink) (j k i : ℕ) (d : Place) → IsAt links j k i → get_or (places_of links) j d ≡ get_or (places_of_link k (raw_link links k)) i d
+unfolding places_of
+place_of_cell links j k i d here =
+    ap (λ j. get_or (places_of links) j d) here.is
+    ∙ get_or-join_below (length links) (λ k. places_of_link k (raw_link links k)) (λ m. cell_count (raw_link links m)) k i d (λ k. length-places_of_link k (raw_link links k)) here.link here.cell
+
+-- it is a queue without a place, or a road cell with one
+cell_is_placed : (raw : RawNet) (j k i : ℕ) → IsInRange raw → HasNoFault raw → IsAt raw.links j k i → IsPlaced (names_of raw) (cell_of (cells_of raw) j) (place_at (names_of raw) j)
+cell_is_placed raw j k i in_range fine here =
+    let link = raw_link raw.links k in
+    let queues = queue_count link.pieces in
+    let cell = cell_of (cells_of raw) j in
+    let is = cell_is_link_cell raw j k i in_range fine here in
+    let P : Place → Type 0 = λ place. IsPlaced (names_of raw) cell place in
+    let is_there : k < length (link_names raw.links) = rw length-map here.link in
+    let among = place_of_cell raw.links j k i (record { link = 0; road = None }) here in
+    elim (cases_lt i queues) [
+      | inl before ↦
+          let is_queue : cell.kind ≡ Queue = is.queue before in
+          subst P (sym (among ∙ place_of_queue k link i (record { link = 0; road = None }) before))
+          (record { link = is_there; queue = λ _. refl; road = λ is_road. absurd (cc) })
+      | inr after ↦
+          let is_road : cell.kind ≡ Road = is.road after in
+          let back : queues + (i - queues) ≡ i = omega arith in
+          let place = rw back at (place_of_road k link (i - queues) (record { link = 0; road = None }) (omega (arith, here.cell))) in
+          subst P (sym (among ∙ place))
+          (record { link = is_there; queue = λ is_queue. absurd (cc); road = λ _. refl })
+    ]
 
 -- the names of the signals are those that the file gives
 names_of_signals : (signals : List RawSignal) → map (λ (signal : SignalNames). signal.name) (map names_of_signal signals) ≡ map (λ (signal : RawSignal). signal.name) signals
@@ -62,9 +121,9 @@ names_of_signals [] = refl
 names_of_signals (signal ∷ signals) = ap (λ names. signal.name ∷ names) (names_of_signals signals)
 
 -- those of signal s, as the network has it
-signal_is_named : (raw : RawNet) (s : ℕ) → IsInRange raw → s < length raw.signals → AreSignalNames (built_signal (signals_of raw) s) (names_of_signal (signal_of raw.signals s))
+signal_is_named : (raw : RawNet) (s : ℕ) → IsInRange raw → s < length raw.signals → AreSignalNames (built_signal (signals_of raw) s) (names_of_signal (raw_signal raw.signals s))
 signal_is_named raw s in_range within =
-    let signal = signal_of raw.signals s in
+    let signal = raw_signal raw.signals s in
     let limits : IsSignalInRange signal = in_range.each_signal s no_signal within in
     record {
       name = limits.name;
@@ -79,11 +138,14 @@ unfolding named_of
 named_is_named raw in_range none = record {
   valid = named_is_valid raw in_range none;
   links = All-map (λ name. is_name name ≡ true) (λ (link : RawLink). link.name) raw.links (λ k d there. (in_range.each_link k d there).name);
-  one_per_signal = length-map raw.signals names_of_signal ∙ sym (length-table_of (length raw.signals) (λ s. signal_built (signal_of raw.signals s)));
+  one_per_signal = length-map raw.signals names_of_signal ∙ sym (length-table_of (length raw.signals) (λ s. signal_built (raw_signal raw.signals s)));
   each_signal = λ s there.
       let within : s < length raw.signals = omega (arith, there, length-map raw.signals names_of_signal) in
       rw (get_or-map names_of_signal raw.signals s no_signal (record { name = []; phases = [] }) within) (signal_is_named raw s in_range within);
   differ = ap all_differ (names_of_signals raw.signals) ∙ in_range.signals_differ;
   one_per_cell = length-places_of raw.links ∙ sym (length-cells_of raw);
-  places = rw length-map (places_are_of raw.links);
+  each_cell = λ j there.
+      let within : j < cells_below raw.links (length raw.links) = omega (arith, there, length-places_of raw.links) in
+      let part = place_of raw.links j within in
+      cell_is_placed raw j part.0 part.1 in_range (has_no_fault raw none) part.2;
 }

@@ -9,13 +9,13 @@ use Rattle.ct_base.specs.declared.cell.Gate.{Gate}
 use Rattle.ct_base.specs.declared.cell.Out.{Out}
 use Rattle.ct_base.specs.declared.cell.Out.TheVariants.{To, Turns}
 use Rattle.ct_base.specs.declared.net.Net.{Net}
-use Rattle.ct_base.proofs.TableLaws.{get_or-table_of, length-table_of}
+use Rattle.listed.proofs.TableLaws.{get_or-table_of, length-table_of}
 use Rattle.network_file.specs.Range.{IsInRange, IsLinkInRange}
 use Rattle.network_file.specs.declared.raw.RawNet.{RawNet}
 use Rattle.network_file.specs.declared.raw.RawLink.{RawLink}
 use Rattle.cell_build.specs.Built.{named_of, signal_built}
 use Rattle.cell_build.specs.Link.{cell_count, cells_below, first_road, gate_of, out_by, queue_count, road_named}
-use Rattle.cell_build.specs.Names.{link_names, link_of, number_of, signal_of}
+use Rattle.cell_build.specs.Names.{link_names, raw_link, number_of, raw_signal}
 use Rattle.cell_build.specs.Refusals.{faults_of, leads_to}
 use Rattle.cell_build.proofs.FaultLaws.{turn_of, HasNoFault, cells_are_few, has_no_fault}
 use Rattle.cell_build.proofs.LeadLaws.{LeadsInto, branches_differ, named_within, targets_are_roads}
@@ -35,25 +35,25 @@ out_at raw j = (cell_of (cells_of raw) j).out
 
 -- link k leads where its file says, behind its gate
 abbrev last_of : RawNet → ℕ → Out
-last_of raw k = out_by raw.links (link_of raw.links k).to (link_of raw.links k).turns
+last_of raw k = out_by raw.links (raw_link raw.links k).to (raw_link raw.links k).turns
 
 abbrev gate_at : RawNet → ℕ → Option Gate
-gate_at raw k = gate_of raw.signals (link_of raw.links k)
+gate_at raw k = gate_of raw.signals (raw_link raw.links k)
 
 -- cell j, which is cell i of link k
-cell_is : (raw : RawNet) (j k i : ℕ) → IsSound raw → IsAt raw.links j k i → IsLinkCell raw.steps (cells_below raw.links k) (last_of raw k) (gate_at raw k) (link_of raw.links k) i (cell_of (cells_of raw) j)
+cell_is : (raw : RawNet) (j k i : ℕ) → IsSound raw → IsAt raw.links j k i → IsLinkCell raw.steps (cells_below raw.links k) (last_of raw k) (gate_at raw k) (raw_link raw.links k) i (cell_of (cells_of raw) j)
 cell_is raw j k i sound here = cell_is_link_cell raw j k i sound.in_range sound.fine here
 
 -- cell t is the next one of its link
 record IsNext (raw : RawNet) (k i t : ℕ) : Type 0 where
-  inner : i + 1 < cell_count (link_of raw.links k)
+  inner : i + 1 < cell_count (raw_link raw.links k)
   place : IsAt raw.links t k (i + 1)
 
 -- cell t is the first road cell of link m, into which the last cell of link k leads
 record IsEntry (raw : RawNet) (k i m t : ℕ) : Type 0 where
-  last : i + 1 ≡ cell_count (link_of raw.links k)
+  last : i + 1 ≡ cell_count (raw_link raw.links k)
   leads : LeadsInto raw.links k m
-  place : IsAt raw.links t m (queue_count (link_of raw.links m).pieces)
+  place : IsAt raw.links t m (queue_count (raw_link raw.links m).pieces)
 
 -- cell i of link k leads to cell t
 abbrev IsStep : RawNet → ℕ → ℕ → ℕ → Type 0
@@ -68,12 +68,12 @@ targets_are_steps : (raw : RawNet) (j k i : ℕ) → IsSound raw → IsAt raw.li
 targets_are_steps raw j k i sound here =
     let is = cell_is raw j k i sound here in
     let first = cells_below raw.links k in
-    elim (cases_lt (i + 1) (cell_count (link_of raw.links k))) [
+    elim (cases_lt (i + 1) (cell_count (raw_link raw.links k))) [
       | inl inner ↦
           let next : IsNext raw k i (first + (i + 1)) = record { inner = inner; place = record { link = here.link; cell = inner; is = refl } } in
           rw (is.inner inner) (one_target (IsStep raw k i) (first + (i + 1)) (inl next))
       | inr at_end ↦
-          let last : i + 1 ≡ cell_count (link_of raw.links k) = omega (arith, here.cell) in
+          let last : i + 1 ≡ cell_count (raw_link raw.links k) = omega (arith, here.cell) in
           rw (is.end last) (λ n d within.
           let road = targets_are_roads raw k sound.fine here.link n d within in
           let entry : IsEntry raw k i road.0 (get_or (targets (last_of raw k)) n d) =
@@ -85,19 +85,19 @@ targets_are_steps raw j k i sound here =
 step_is_target : (raw : RawNet) (j k i t : ℕ) → IsSound raw → IsAt raw.links j k i → IsStep raw k i t → IsTarget (cells_of raw) j t
 step_is_target raw j k i t sound here (inl next) = record {
   within = omega (arith, length-cells_of raw, place_within raw.links t k (i + 1) next.place);
-  road = (cell_is raw t k (i + 1) sound next.place).road (omega (arith, queue_count-le (link_of raw.links k).pieces));
+  road = (cell_is raw t k (i + 1) sound next.place).road (omega (arith, queue_count-le (raw_link raw.links k).pieces));
   other = λ same. omega (arith, next.place.is, here.is);
 }
 step_is_target raw j k i t sound here (inr (m, entry)) = record {
-  within = omega (arith, length-cells_of raw, place_within raw.links t m (queue_count (link_of raw.links m).pieces) entry.place);
-  road = (cell_is raw t m (queue_count (link_of raw.links m).pieces) sound entry.place).road (omega arith);
-  other = λ same. entry.leads.other (one_place raw.links t m (queue_count (link_of raw.links m).pieces) k i entry.place (rw (← same) at here)).0;
+  within = omega (arith, length-cells_of raw, place_within raw.links t m (queue_count (raw_link raw.links m).pieces) entry.place);
+  road = (cell_is raw t m (queue_count (raw_link raw.links m).pieces) sound entry.place).road (omega arith);
+  other = λ same. entry.leads.other (one_place raw.links t m (queue_count (raw_link raw.links m).pieces) k i entry.place (rw (← same) at here)).0;
 }
 
 -- the first road cells of two links differ
 roads_differ : (raw : RawNet) (m n : ℕ) → IsSound raw → m < length raw.links → n < length raw.links → m ≢ n → first_road raw.links m ≢ first_road raw.links n
 roads_differ raw m n sound first second differ same =
-    differ (one_place raw.links (first_road raw.links m) m (queue_count (link_of raw.links m).pieces) n (queue_count (link_of raw.links n).pieces)
+    differ (one_place raw.links (first_road raw.links m) m (queue_count (raw_link raw.links m).pieces) n (queue_count (raw_link raw.links n).pieces)
     (road_place raw m sound.in_range first) (rw (← same) at (road_place raw n sound.in_range second))).0
 
 -- a branch of a diverge as the file writes it
@@ -112,26 +112,26 @@ target_at links turns i d within =
     ∙ ap (λ (branch : ℕ × ℕ). branch.0) (get_or-map (branch_to links) turns i ([], 0) (d, 0) within)
 
 -- the branches of link k lead into different cells
-branches_are_apart : (raw : RawNet) (k : ℕ) → IsSound raw → k < length raw.links → AllPairs (λ i j. i ≢ j) (targets (Turns (map (branch_to raw.links) (link_of raw.links k).turns)))
+branches_are_apart : (raw : RawNet) (k : ℕ) → IsSound raw → k < length raw.links → AllPairs (λ i j. i ≢ j) (targets (Turns (map (branch_to raw.links) (raw_link raw.links k).turns)))
 branches_are_apart raw k sound within = λ i j d before there same.
-    let turns = (link_of raw.links k).turns in
+    let turns = (raw_link raw.links k).turns in
     let second : j < length turns = omega (arith, there, length-map (map (branch_to raw.links) turns) (λ (branch : ℕ × ℕ). branch.0), length-map turns (branch_to raw.links)) in
     let first : i < length turns = omega arith in
-    roads_differ raw (number_of (link_names raw.links) (turn_of (link_of raw.links k) i)) (number_of (link_names raw.links) (turn_of (link_of raw.links k) j)) sound
+    roads_differ raw (number_of (link_names raw.links) (turn_of (raw_link raw.links k) i)) (number_of (link_names raw.links) (turn_of (raw_link raw.links k) j)) sound
     (named_within raw k i sound.fine within first) (named_within raw k j sound.fine within second)
     (branches_differ raw k i j sound.fine within before second)
     (sym (target_at raw.links turns i d first) ∙ same ∙ target_at raw.links turns j d second)
 
 -- where link k leads is a split within the limits
 last_is_split : (raw : RawNet) (k : ℕ) → IsSound raw → k < length raw.links → IsSplit (last_of raw k)
-last_is_split raw k sound within = by_out (link_of raw.links k).to (link_of raw.links k).turns refl
+last_is_split raw k sound within = by_out (raw_link raw.links k).to (raw_link raw.links k).turns refl
   where
-    by_out : (to : Option (List ℕ)) (turns : List (List ℕ × ℕ)) → (link_of raw.links k).turns ≡ turns → IsSplit (out_by raw.links to turns)
+    by_out : (to : Option (List ℕ)) (turns : List (List ℕ × ℕ)) → (raw_link raw.links k).turns ≡ turns → IsSplit (out_by raw.links to turns)
     by_out (Some name) turns is = tt
     by_out None [] is = tt
     by_out None (turn ∷ turns) is =
-        let limits : IsLinkInRange (link_of raw.links k) = sound.in_range.each_link k _ within in
-        let some : (link_of raw.links k).turns ≢ [] = λ none. absurd (cc) in
+        let limits : IsLinkInRange (raw_link raw.links k) = sound.in_range.each_link k _ within in
+        let some : (raw_link raw.links k).turns ≢ [] = λ none. absurd (cc) in
         let few = rw is at (limits.turns some) in
         let parcels = rw is at limits.parcels in
         let apart = rw is at (branches_are_apart raw k sound within) in (
@@ -152,12 +152,12 @@ cell_is_cell raw j k i sound here =
     record {
       cap = is.cap;
       kind = is.kind;
-      gate = elim (cases_lt (i + 1) (cell_count (link_of raw.links k))) [
+      gate = elim (cases_lt (i + 1) (cell_count (raw_link raw.links k))) [
         | inl inner ↦ rw (is.inner_gate inner) tt
         | inr at_end ↦ rw (is.end_gate (omega (arith, here.cell))) (gate_of_link_is_gate raw k sound.in_range sound.fine here.link)
       ];
       targets = λ n d within. step_is_target raw j k i (get_or (targets cell.out) n d) sound here (targets_are_steps raw j k i sound here n d within);
-      split = elim (cases_lt (i + 1) (cell_count (link_of raw.links k))) [
+      split = elim (cases_lt (i + 1) (cell_count (raw_link raw.links k))) [
         | inl inner ↦ rw (is.inner inner) tt
         | inr at_end ↦ rw (is.end (omega (arith, here.cell))) (last_is_split raw k sound here.link)
       ];
@@ -166,7 +166,7 @@ cell_is_cell raw j k i sound here =
 -- a cell that another leads to by a step of its own link, and one by which a link leads into it, are not one
 next_is_no_entry : (raw : RawNet) (k i l m n t : ℕ) → IsSound raw → l < length raw.links → IsNext raw k i t → IsEntry raw l m n t → ⊥
 next_is_no_entry raw k i l m n t sound within next entry =
-    let queues = queue_count (link_of raw.links n).pieces in
+    let queues = queue_count (raw_link raw.links n).pieces in
     let none : queues ≡ 0 = fed_has_no_queue raw n l sound.fine entry.leads.within within entry.leads.leads in
     let same : i + 1 ≡ queues = (one_place raw.links t k (i + 1) n queues next.place entry.place).1 in
     omega arith
@@ -183,12 +183,12 @@ steps_are_apart raw a p i b q k t sound differ first second (inl from_first) (in
 steps_are_apart raw a p i b q k t sound differ first second (inr (m, from_first)) (inl from_second) =
     absurd (next_is_no_entry raw b q a p m t sound first.link from_second from_first)
 steps_are_apart raw a p i b q k t sound differ first second (inr (m, from_first)) (inr (n, from_second)) =
-    let one : m ≡ n = (one_place raw.links t m (queue_count (link_of raw.links m).pieces) n (queue_count (link_of raw.links n).pieces) from_first.place from_second.place).0 in
+    let one : m ≡ n = (one_place raw.links t m (queue_count (raw_link raw.links m).pieces) n (queue_count (raw_link raw.links n).pieces) from_first.place from_second.place).0 in
     let apart : a ≢ b = λ same.
     let below : cells_below raw.links a ≡ cells_below raw.links b = ap (cells_below raw.links) same in
-    let count : cell_count (link_of raw.links a) ≡ cell_count (link_of raw.links b) = ap (λ k. cell_count (link_of raw.links k)) same in
+    let count : cell_count (raw_link raw.links a) ≡ cell_count (raw_link raw.links b) = ap (λ k. cell_count (raw_link raw.links k)) same in
     differ (omega (arith, first.is, second.is, from_first.last, from_second.last)) in
-    let leads : leads_to (link_of raw.links b) (link_of raw.links m).name ≡ true = rw (← one) at from_second.leads.leads in
+    let leads : leads_to (raw_link raw.links b) (raw_link raw.links m).name ≡ true = rw (← one) at from_second.leads.leads in
     rw ((cell_is raw i a p sound first).end_gate from_first.last, (cell_is raw k b q sound second).end_gate from_second.last)
     (feeders_apart raw m a b sound.fine from_first.leads.within first.link second.link apart from_first.leads.leads leads)
 
@@ -203,13 +203,13 @@ sound_is_valid raw sound =
     record {
       steps = sound.in_range.steps;
       cells = (
-        omega (arith, count, place_within raw.links (first_road raw.links 0) 0 (queue_count (link_of raw.links 0).pieces) (road_place raw 0 sound.in_range (omega (arith, sound.in_range.links)))),
+        omega (arith, count, place_within raw.links (first_road raw.links 0) 0 (queue_count (raw_link raw.links 0).pieces) (road_place raw 0 sound.in_range (omega (arith, sound.in_range.links)))),
         omega (arith, count, cells_are_few raw sound.fine),
       );
       signals = rw length-table_of sound.in_range.signals;
       each_signal = λ s d within.
-          let there : s < length raw.signals = omega (arith, length-table_of (length raw.signals) (λ s. signal_built (signal_of raw.signals s))) in
-          rw (get_or-table_of (length raw.signals) (λ s. signal_built (signal_of raw.signals s)) s d there) (signal_is_signal raw s sound.in_range sound.fine there);
+          let there : s < length raw.signals = omega (arith, length-table_of (length raw.signals) (λ s. signal_built (raw_signal raw.signals s))) in
+          rw (get_or-table_of (length raw.signals) (λ s. signal_built (raw_signal raw.signals s)) s d there) (signal_is_signal raw s sound.in_range sound.fine there);
       each_cell = λ j within.
           let place = place_of raw.links j (omega arith) in
           cell_is_cell raw j place.0 place.1 sound place.2;

@@ -3,33 +3,33 @@ use Rattle.std.proofs.Common.{◌≡◌, inl, inr, ℕ, ◌+◌, ◌<◌, ◌≤
 use Rattle.std.proofs.lemmas.Bool.{cases_order}
 use Rattle.ct_base.specs.Access.{cell_of, no_cell}
 use Rattle.ct_base.specs.declared.cell.Cell.{Cell}
-use Rattle.ct_base.proofs.TableLaws.{sum_below-fewer, sum_below-suc}
+use Rattle.listed.proofs.SumLaws.{sum_below-fewer, sum_below-suc}
 use Rattle.network_file.specs.Range.{IsInRange, IsLinkInRange}
 use Rattle.network_file.specs.declared.raw.RawNet.{RawNet}
 use Rattle.network_file.specs.declared.raw.RawLink.{RawLink}
 use Rattle.cell_build.specs.Link.{cell_count, cells_at, cells_below, cells_of_links, first_road, gate_of, initial_at, out_by, queue_count}
-use Rattle.cell_build.specs.Names.{link_of}
+use Rattle.cell_build.specs.Names.{raw_link}
 use Rattle.cell_build.proofs.FaultLaws.{HasNoFault, initial_fits, step_is_light}
-use Rattle.cell_build.proofs.JoinLaws.{get_or-join_below, length-join_below, part_of}
+use Rattle.listed.proofs.JoinLaws.{get_or-join_below, length-join_below, part_of}
 use Rattle.cell_build.proofs.LinkCells.{IsFit, IsLinkCell, cell_of-cells_of_link, length-cells_of_link}
 
 -- cell j of the network is cell i of link k
 pub record IsAt (links : List RawLink) (j k i : ℕ) : Type 0 where
   pub link : k < length links
-  pub cell : i < cell_count (link_of links k)
+  pub cell : i < cell_count (raw_link links k)
   pub is : j ≡ cells_below links k + i
 
 -- the cells before the next link are those before the link and its own
-cells_below-suc : (links : List RawLink) (k : ℕ) → cells_below links (k + 1) ≡ cells_below links k + cell_count (link_of links k)
-cells_below-suc links k = sum_below-suc k (λ m. cell_count (link_of links m))
+cells_below-suc : (links : List RawLink) (k : ℕ) → cells_below links (k + 1) ≡ cells_below links k + cell_count (raw_link links k)
+cells_below-suc links k = sum_below-suc k (λ m. cell_count (raw_link links m))
 
 cells_below-fewer : (links : List RawLink) (m n : ℕ) → m ≤ n → cells_below links m ≤ cells_below links n
-cells_below-fewer links m n le = sum_below-fewer m n (λ m. cell_count (link_of links m)) le
+cells_below-fewer links m n le = sum_below-fewer m n (λ m. cell_count (raw_link links m)) le
 
 -- each cell is at a place
 pub place_of : (links : List RawLink) (j : ℕ) → j < cells_below links (length links) → (k : ℕ) × (i : ℕ) × IsAt links j k i
 place_of links j within =
-    let part = part_of (length links) (λ m. cell_count (link_of links m)) j within in
+    let part = part_of (length links) (λ m. cell_count (raw_link links m)) j within in
     (part.0, part.1, record { link = part.2; cell = part.3; is = part.4 })
 
 -- a cell of an earlier link is not a cell of a later one
@@ -58,28 +58,28 @@ abbrev pub cells_of : RawNet → List Cell
 cells_of raw = cells_of_links raw.steps raw.signals raw.links (length raw.links)
 
 -- the cells of link k are as many as the link has
-length-cells_at : (raw : RawNet) (k : ℕ) → length (cells_at raw.steps raw.signals raw.links k) ≡ cell_count (link_of raw.links k)
+length-cells_at : (raw : RawNet) (k : ℕ) → length (cells_at raw.steps raw.signals raw.links k) ≡ cell_count (raw_link raw.links k)
 length-cells_at raw k =
-    let link = link_of raw.links k in
+    let link = raw_link raw.links k in
     length-cells_of_link raw.steps (cells_below raw.links k) (out_by raw.links link.to link.turns) (gate_of raw.signals link) link
 
 pub length-cells_of : (raw : RawNet) → length (cells_of raw) ≡ cells_below raw.links (length raw.links)
 unfolding cells_of_links
 length-cells_of raw =
-    length-join_below (length raw.links) (cells_at raw.steps raw.signals raw.links) (λ m. cell_count (link_of raw.links m)) (length-cells_at raw)
+    length-join_below (length raw.links) (cells_at raw.steps raw.signals raw.links) (λ m. cell_count (raw_link raw.links m)) (length-cells_at raw)
 
 -- the units at step 0 have room where there is no fault
-has_room : (raw : RawNet) (k i : ℕ) → IsInRange raw → HasNoFault raw → k < length raw.links → i < (link_of raw.links k).cells → initial_at (link_of raw.links k).initial i ≤ (link_of raw.links k).store
-has_room raw k i in_range fine within inner = by_initial (link_of raw.links k).initial refl
+has_room : (raw : RawNet) (k i : ℕ) → IsInRange raw → HasNoFault raw → k < length raw.links → i < (raw_link raw.links k).cells → initial_at (raw_link raw.links k).initial i ≤ (raw_link raw.links k).store
+has_room raw k i in_range fine within inner = by_initial (raw_link raw.links k).initial refl
   where
-    by_initial : (initial : Option (List ℕ)) → (link_of raw.links k).initial ≡ initial → initial_at initial i ≤ (link_of raw.links k).store
+    by_initial : (initial : Option (List ℕ)) → (raw_link raw.links k).initial ≡ initial → initial_at initial i ≤ (raw_link raw.links k).store
     by_initial None starts = omega arith
     by_initial (Some units) starts =
         let fits = initial_fits raw k units fine within starts in
         fits.1 i 0 (rw fits.0 inner)
 
 -- link k is fit
-pub link_is_fit : (raw : RawNet) (k : ℕ) → IsInRange raw → HasNoFault raw → k < length raw.links → IsFit raw.steps (link_of raw.links k)
+pub link_is_fit : (raw : RawNet) (k : ℕ) → IsInRange raw → HasNoFault raw → k < length raw.links → IsFit raw.steps (raw_link raw.links k)
 link_is_fit raw k in_range fine within = record {
   in_range = in_range.each_link k _ within;
   light = λ t there. step_is_light raw k t fine within there;
@@ -88,19 +88,19 @@ link_is_fit raw k in_range fine within = record {
 
 -- cell j keeps what a cell of its link keeps
 pub cell_is_link_cell : (raw : RawNet) (j k i : ℕ) → IsInRange raw → HasNoFault raw → IsAt raw.links j k i →
-    IsLinkCell raw.steps (cells_below raw.links k) (out_by raw.links (link_of raw.links k).to (link_of raw.links k).turns) (gate_of raw.signals (link_of raw.links k)) (link_of raw.links k) i (cell_of (cells_of raw) j)
+    IsLinkCell raw.steps (cells_below raw.links k) (out_by raw.links (raw_link raw.links k).to (raw_link raw.links k).turns) (gate_of raw.signals (raw_link raw.links k)) (raw_link raw.links k) i (cell_of (cells_of raw) j)
 unfolding cells_of_links
 cell_is_link_cell raw j k i in_range fine here =
-    let link = link_of raw.links k in
+    let link = raw_link raw.links k in
     let is : cell_of (cells_of raw) j ≡ cell_of (cells_at raw.steps raw.signals raw.links k) i =
     ap (cell_of (cells_of raw)) here.is
-    ∙ get_or-join_below (length raw.links) (cells_at raw.steps raw.signals raw.links) (λ m. cell_count (link_of raw.links m)) k i no_cell (length-cells_at raw) here.link here.cell in
+    ∙ get_or-join_below (length raw.links) (cells_at raw.steps raw.signals raw.links) (λ m. cell_count (raw_link raw.links m)) k i no_cell (length-cells_at raw) here.link here.cell in
     rw is (cell_of-cells_of_link raw.steps (cells_below raw.links k) (out_by raw.links link.to link.turns) (gate_of raw.signals link) link i (link_is_fit raw k in_range fine here.link) here.cell)
 
 -- the first road cell of a link
-pub road_place : (raw : RawNet) (k : ℕ) → IsInRange raw → k < length raw.links → IsAt raw.links (first_road raw.links k) k (queue_count (link_of raw.links k).pieces)
+pub road_place : (raw : RawNet) (k : ℕ) → IsInRange raw → k < length raw.links → IsAt raw.links (first_road raw.links k) k (queue_count (raw_link raw.links k).pieces)
 road_place raw k in_range within = record {
   link = within;
-  cell = let limits : IsLinkInRange (link_of raw.links k) = in_range.each_link k _ within in omega (arith, limits.cells);
+  cell = let limits : IsLinkInRange (raw_link raw.links k) = in_range.each_link k _ within in omega (arith, limits.cells);
   is = refl;
 }

@@ -1,14 +1,14 @@
 -- The cells of a link behind the cells before it, with a queue and without one.
 use Rattle.std.proofs.Common.{◌≡◌, ℕ, ◌+◌, ◌<◌, List, [], ◌∷◌, ◌++◌, Option, Some, length, refl, ap, ◌∙◌, append_assoc, add-zero, arith}
 use Rattle.std.proofs.lemmas.List.{append-nil, length-append, length_push}
-use Rattle.ct_base.specs.Tables.{table_of}
+use Rattle.listed.specs.Below.{table_of}
 use Rattle.ct_base.specs.declared.cell.Cell.{Cell}
 use Rattle.ct_base.specs.declared.cell.Gate.{Gate}
 use Rattle.ct_base.specs.declared.cell.Out.{Out}
 use Rattle.demand.specs.declared.piece.Piece.{Piece}
 use Rattle.network_file.specs.declared.raw.RawLink.{RawLink}
 use Rattle.demand.specs.Spread.{rates_of}
-use Rattle.cell_build.specs.Queues.{queue_demand, queue_with}
+use Rattle.cell_build.specs.inner.Queues.{queue_demand, queue_with}
 use Rattle.cell_build.specs.Link.{cells_of_link, queue_count, queue_of, queues_from, road_of}
 
 -- a link with pieces has one queue

@@ -5,17 +5,17 @@ use Rattle.std.specs.Str.{bytes_eq}
 use Rattle.std.proofs.lemmas.Bool.{true≢false}
 use Rattle.std.proofs.lemmas.List.{get_or_default, get_or-map, length-map}
 use Rattle.ct_base.specs.Access as base
-use Rattle.ct_base.specs.Tables.{table_of}
+use Rattle.listed.specs.Below.{table_of}
 use Rattle.ct_base.specs.Validity.{IsBetween, IsGate, IsPhase, IsSignal}
 use Rattle.ct_base.specs.declared.signal.Signal.{Signal}
-use Rattle.ct_base.proofs.TableLaws.{length-table_of, get_or-table_of}
+use Rattle.listed.proofs.TableLaws.{length-table_of, get_or-table_of}
 use Rattle.network_file.specs.Range.{IsInRange, IsLinkInRange, IsPhaseInRange, IsSignalInRange}
 use Rattle.network_file.specs.declared.raw.RawNet.{RawNet}
 use Rattle.network_file.specs.declared.raw.RawSignal.{RawSignal}
 use Rattle.network_file.specs.declared.raw.RawPhase.{RawPhase}
 use Rattle.cell_build.specs.Built.{phase_built, signal_built, start_among}
 use Rattle.cell_build.specs.Link.{gate_by, gate_of, signal_named}
-use Rattle.cell_build.specs.Names.{is_unknown, link_of, no_phase, no_signal, number_of, phase_names, phase_of, signal_names, signal_of}
+use Rattle.cell_build.specs.Names.{is_unknown, raw_link, no_phase, no_signal, number_of, phase_names, raw_phase, signal_names, raw_signal}
 use Rattle.cell_build.specs.Refusals.{is_empty}
 use Rattle.cell_build.proofs.FaultLaws.{HasNoFault, IsPhaseRuled, green_is_known, next_is_known, phase_is_ruled, signal_is_known, start_is_known}
 use Rattle.cell_build.proofs.NumberLaws.{bit_at-set_of, get_or-number_of, not_among, number_within, set_of-lt, set_of-some}
@@ -26,14 +26,14 @@ some_there [] some = absurd (true≢false some)
 some_there (x ∷ xs) some = omega arith
 
 -- signal s of the file, and phase p of it
-signal_in_range : (raw : RawNet) (s : ℕ) → IsInRange raw → s < length raw.signals → IsSignalInRange (signal_of raw.signals s)
+signal_in_range : (raw : RawNet) (s : ℕ) → IsInRange raw → s < length raw.signals → IsSignalInRange (raw_signal raw.signals s)
 signal_in_range raw s in_range within = in_range.each_signal s no_signal within
 
 -- all that may follow a phase are phases of the signal
-nexts_are_known : (raw : RawNet) (s p : ℕ) → HasNoFault raw → s < length raw.signals → p < length (signal_of raw.signals s).phases →
-    All (λ name. is_unknown (phase_names (signal_of raw.signals s)) name ≡ false) (phase_of (signal_of raw.signals s) p).next
+nexts_are_known : (raw : RawNet) (s p : ℕ) → HasNoFault raw → s < length raw.signals → p < length (raw_signal raw.signals s).phases →
+    All (λ name. is_unknown (phase_names (raw_signal raw.signals s)) name ≡ false) (raw_phase (raw_signal raw.signals s) p).next
 nexts_are_known raw s p fine within inner = λ j d there.
-    let next = (phase_of (signal_of raw.signals s) p).next in
+    let next = (raw_phase (raw_signal raw.signals s) p).next in
     rw (get_or_default next j d [] there) (next_is_known raw s p j fine within inner there)
 
 -- no name that may follow a phase stands for the phase
@@ -43,11 +43,11 @@ follows_another names more p known none = λ j d there same.
     (sym (get_or-number_of names (get_or more j d) [] (known j d there)) ∙ ap (λ k. get_or names k []) same)
 
 -- phase p of signal s
-phase_is_phase : (raw : RawNet) (s p : ℕ) → IsInRange raw → HasNoFault raw → s < length raw.signals → p < length (signal_of raw.signals s).phases →
-    IsPhase (length (signal_of raw.signals s).phases) p (phase_built (phase_names (signal_of raw.signals s)) (phase_of (signal_of raw.signals s) p))
+phase_is_phase : (raw : RawNet) (s p : ℕ) → IsInRange raw → HasNoFault raw → s < length raw.signals → p < length (raw_signal raw.signals s).phases →
+    IsPhase (length (raw_signal raw.signals s).phases) p (phase_built (phase_names (raw_signal raw.signals s)) (raw_phase (raw_signal raw.signals s) p))
 phase_is_phase raw s p in_range fine within inner =
-    let signal = signal_of raw.signals s in
-    let phase = phase_of signal p in
+    let signal = raw_signal raw.signals s in
+    let phase = raw_phase signal p in
     let names = phase_names signal in
     let limits : IsPhaseInRange phase = (signal_in_range raw s in_range within).each_phase p no_phase inner in
     let ruled : IsPhaseRuled phase = phase_is_ruled raw s p fine within inner in
@@ -71,11 +71,11 @@ start_is_phase signal None some known = omega arith
 start_is_phase signal (Some name) some known = omega (arith, number_within (phase_names signal) name (known name refl), length-map signal.phases (λ (phase : RawPhase). phase.name))
 
 -- signal s
-pub signal_is_signal : (raw : RawNet) (s : ℕ) → IsInRange raw → HasNoFault raw → s < length raw.signals → IsSignal (signal_built (signal_of raw.signals s))
+pub signal_is_signal : (raw : RawNet) (s : ℕ) → IsInRange raw → HasNoFault raw → s < length raw.signals → IsSignal (signal_built (raw_signal raw.signals s))
 signal_is_signal raw s in_range fine within =
-    let signal = signal_of raw.signals s in
+    let signal = raw_signal raw.signals s in
     let limits : IsSignalInRange signal = signal_in_range raw s in_range within in
-    let build = λ (p : ℕ). phase_built (phase_names signal) (phase_of signal p) in
+    let build = λ (p : ℕ). phase_built (phase_names signal) (raw_phase signal p) in
     let count : length (table_of (length signal.phases) build) ≡ length signal.phases = length-table_of (length signal.phases) build in
     record {
       phases = rw count limits.phases;
@@ -87,22 +87,22 @@ signal_is_signal raw s in_range fine within =
     }
 
 -- the greens of a link are phases of its signal
-greens_are_known : (raw : RawNet) (k : ℕ) (name : List ℕ) → HasNoFault raw → k < length raw.links → (link_of raw.links k).signal ≡ Some name →
-    All (λ green. is_unknown (phase_names (signal_named raw.signals name)) green ≡ false) (link_of raw.links k).greens
+greens_are_known : (raw : RawNet) (k : ℕ) (name : List ℕ) → HasNoFault raw → k < length raw.links → (raw_link raw.links k).signal ≡ Some name →
+    All (λ green. is_unknown (phase_names (signal_named raw.signals name)) green ≡ false) (raw_link raw.links k).greens
 greens_are_known raw k name fine within gated = λ j d there.
-    let greens = (link_of raw.links k).greens in
+    let greens = (raw_link raw.links k).greens in
     rw (get_or_default greens j d [] there) (green_is_known raw k j name fine within gated there)
 
 -- the signals of a network of cells
 abbrev pub signals_of : RawNet → List Signal
-signals_of raw = table_of (length raw.signals) (λ s. signal_built (signal_of raw.signals s))
+signals_of raw = table_of (length raw.signals) (λ s. signal_built (raw_signal raw.signals s))
 
 -- the phases of signal s are as many as the file names
-pub count_of_phases : (raw : RawNet) (s : ℕ) → s < length raw.signals → length (base.signal_of (signals_of raw) s).phases ≡ length (signal_of raw.signals s).phases
+pub count_of_phases : (raw : RawNet) (s : ℕ) → s < length raw.signals → length (base.signal_of (signals_of raw) s).phases ≡ length (raw_signal raw.signals s).phases
 count_of_phases raw s within =
-    let signal = signal_of raw.signals s in
-    ap (λ (signal : Signal). length signal.phases) (get_or-table_of (length raw.signals) (λ s. signal_built (signal_of raw.signals s)) s base.no_signal within)
-    ∙ length-table_of (length signal.phases) (λ p. phase_built (phase_names signal) (phase_of signal p))
+    let signal = raw_signal raw.signals s in
+    ap (λ (signal : Signal). length signal.phases) (get_or-table_of (length raw.signals) (λ s. signal_built (raw_signal raw.signals s)) s base.no_signal within)
+    ∙ length-table_of (length signal.phases) (λ p. phase_built (phase_names signal) (raw_phase signal p))
 
 -- a gate by a signal that is known, with some of its phases
 gate_is_gate : (raw : RawNet) (name : List ℕ) (greens : List (List ℕ)) → is_unknown (signal_names raw.signals) name ≡ false → 1 ≤ length greens →
@@ -111,8 +111,8 @@ gate_is_gate : (raw : RawNet) (name : List ℕ) (greens : List (List ℕ)) → i
 gate_is_gate raw name greens known some greens_known =
     let s = number_of (signal_names raw.signals) name in
     let within : s < length raw.signals = omega (arith, number_within (signal_names raw.signals) name known, length-map raw.signals (λ (signal : RawSignal). signal.name)) in
-    let names = phase_names (signal_of raw.signals s) in
-    let count : length (base.signal_of (signals_of raw) s).phases ≡ length names = count_of_phases raw s within ∙ sym (length-map (signal_of raw.signals s).phases _) in
+    let names = phase_names (raw_signal raw.signals s) in
+    let count : length (base.signal_of (signals_of raw) s).phases ≡ length names = count_of_phases raw s within ∙ sym (length-map (raw_signal raw.signals s).phases _) in
     record {
       signal = rw length-table_of within;
       opens = set_of-some names greens some;
@@ -120,12 +120,12 @@ gate_is_gate raw name greens known some greens_known =
     }
 
 -- the gate of link k
-pub gate_of_link_is_gate : (raw : RawNet) (k : ℕ) → IsInRange raw → HasNoFault raw → k < length raw.links → IfSome (gate_of raw.signals (link_of raw.links k)) (IsGate (signals_of raw))
-gate_of_link_is_gate raw k in_range fine within = by_signal (link_of raw.links k).signal refl
+pub gate_of_link_is_gate : (raw : RawNet) (k : ℕ) → IsInRange raw → HasNoFault raw → k < length raw.links → IfSome (gate_of raw.signals (raw_link raw.links k)) (IsGate (signals_of raw))
+gate_of_link_is_gate raw k in_range fine within = by_signal (raw_link raw.links k).signal refl
   where
-    by_signal : (signal : Option (List ℕ)) → (link_of raw.links k).signal ≡ signal → IfSome (gate_by raw.signals signal (link_of raw.links k).greens) (IsGate (signals_of raw))
+    by_signal : (signal : Option (List ℕ)) → (raw_link raw.links k).signal ≡ signal → IfSome (gate_by raw.signals signal (raw_link raw.links k).greens) (IsGate (signals_of raw))
     by_signal None always_open = tt
     by_signal (Some name) gated =
-        let limits : IsLinkInRange (link_of raw.links k) = in_range.each_link k _ within in
-        let greens : IsBetween 1 16 (length (link_of raw.links k).greens) = limits.greens (rw gated refl) in
-        gate_is_gate raw name (link_of raw.links k).greens (signal_is_known raw k name fine within gated) greens.0 (greens_are_known raw k name fine within gated)
+        let limits : IsLinkInRange (raw_link raw.links k) = in_range.each_link k _ within in
+        let greens : IsBetween 1 16 (length (raw_link raw.links k).greens) = limits.greens (rw gated refl) in
+        gate_is_gate raw name (raw_link raw.links k).greens (signal_is_known raw k name fine within gated) greens.0 (greens_are_known raw k name fine within gated)

@@ -1,8 +1,8 @@
 -- Tables that are filled one element at a time.
 use Rattle.std.proofs.Common.{◌≡◌, ℕ, ◌+◌, ◌<◌, ◌∷◌, ◌++◌, List, [], length, get_or, refl, ap, ◌∙◌, sym}
 use Rattle.std.proofs.lemmas.List.{append-nil, append_assoc, get_or_read}
-use Rattle.ct_base.specs.Tables.{table_of}
-use Rattle.ct_base.proofs.TableLaws.{table_of-zero, table_of-suc}
+use Rattle.listed.specs.Below.{table_of}
+use Rattle.listed.proofs.TableLaws.{table_of-zero, table_of-suc}
 
 -- before the first element
 pub table_start : {X : Type 0} (f : ℕ → X) → [] ≡ table_of 0 f

@@ -1,6 +1,6 @@
 -- The cells of a link (docs/network-file.md, "From links to cells").
 use Rattle.std.specs.Prelude.{ℕ, ◌+◌, nat_lt, if◌then◌else◌, List, [], ◌∷◌, ◌++◌, Option, Some, None, map, slice_index}
-use Rattle.ct_base.specs.Tables.{sum_below, table_of}
+use Rattle.listed.specs.Below.{sum_below, table_of, join_below}
 use Rattle.ct_base.specs.declared.cell.Cell.{Cell}
 use Rattle.ct_base.specs.declared.cell.Gate.{Gate}
 use Rattle.ct_base.specs.declared.cell.Kind.TheVariants.{Queue, Road}
@@ -10,8 +10,7 @@ use Rattle.demand.specs.declared.piece.Piece.{Piece}
 use Rattle.network_file.specs.declared.raw.RawLink.{RawLink}
 use Rattle.network_file.specs.declared.raw.RawSignal.{RawSignal}
 use Rattle.demand.specs.Spread.{rates_of}
-use Rattle.refusals.specs.Faults.{join_below}
-use Rattle.cell_build.specs.Names.{link_names, link_of, number_of, phase_names, set_of, signal_names, signal_of}
+use Rattle.cell_build.specs.Names.{link_names, raw_link, number_of, phase_names, set_of, signal_names, raw_signal}
 
 -- a link with a piece of demand begins with one queue
 abbrev pub queue_count : List Piece → ℕ
@@ -24,11 +23,11 @@ cell_count link = queue_count link.pieces + link.cells
 
 -- how many cells the links before link k become, which is the number of its first cell
 abbrev pub cells_below : List RawLink → ℕ → ℕ
-cells_below links k = sum_below k (λ m. cell_count (link_of links m))
+cells_below links k = sum_below k (λ m. cell_count (raw_link links m))
 
 -- the number of the first road cell of link k
 abbrev pub first_road : List RawLink → ℕ → ℕ
-first_road links k = cells_below links k + queue_count (link_of links k).pieces
+first_road links k = cells_below links k + queue_count (raw_link links k).pieces
 
 -- the first road cell of the link with a name
 abbrev pub road_named : List RawLink → List ℕ → ℕ
@@ -42,7 +41,7 @@ out_by links None (turn ∷ turns) = Turns (map (λ (branch : List ℕ × ℕ). 
 
 -- the signal that gates a link
 abbrev pub signal_named : List RawSignal → List ℕ → RawSignal
-signal_named signals name = signal_of signals (number_of (signal_names signals) name)
+signal_named signals name = raw_signal signals (number_of (signal_names signals) name)
 
 -- the gate of a link with this signal and these greens, by their names
 abbrev pub gate_by : List RawSignal → Option (List ℕ) → List (List ℕ) → Option Gate
@@ -95,7 +94,7 @@ cells_of_link steps first last gate link =
 -- link k of a network as cells
 abbrev pub cells_at : ℕ → List RawSignal → List RawLink → ℕ → List Cell
 cells_at steps signals links k =
-    let link = link_of links k in
+    let link = raw_link links k in
     cells_of_link steps (cells_below links k) (out_by links link.to link.turns) (gate_of signals link) link
 
 -- the cells of the first n links, in the order of the file

@@ -18,16 +18,16 @@ abbrev pub no_signal : RawSignal
 no_signal = record { name = []; start = None; phases = [] }
 
 -- the link, the signal and the phase with a number
-abbrev pub link_of : List RawLink → ℕ → RawLink
-link_of links k = slice_index_or links k no_link
+abbrev pub raw_link : List RawLink → ℕ → RawLink
+raw_link links k = slice_index_or links k no_link
 
 -- the signal with a number
-abbrev pub signal_of : List RawSignal → ℕ → RawSignal
-signal_of signals s = slice_index_or signals s no_signal
+abbrev pub raw_signal : List RawSignal → ℕ → RawSignal
+raw_signal signals s = slice_index_or signals s no_signal
 
 -- the phase of a signal with a number
-abbrev pub phase_of : RawSignal → ℕ → RawPhase
-phase_of signal p = slice_index_or signal.phases p no_phase
+abbrev pub raw_phase : RawSignal → ℕ → RawPhase
+raw_phase signal p = slice_index_or signal.phases p no_phase
 
 -- the names of all links, of all signals, and of the phases of a signal
 abbrev pub link_names : List RawLink → List (List ℕ)

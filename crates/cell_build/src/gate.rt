@@ -1,14 +1,13 @@
 //! Signals and their phases by number, and the gates of links.
 
 ghost use Rattle.std.specs.Prelude.{◌≡◌, ◌≢◌, ◌<◌, ◌≤◌, length, map, None, All, IfOk};
-ghost use Rattle.ct_base.specs.Tables.{table_of};
+ghost use Rattle.listed.specs.Below.{table_of};
 ghost use Rattle.cell_build.specs.Built.{phase_built, signal_built, start_among};
 ghost use Rattle.cell_build.specs.Link.{gate_of};
-ghost use Rattle.cell_build.specs.Names.{number_of, phase_names, phase_of, set_of, signal_of};
+ghost use Rattle.cell_build.specs.Names.{number_of, phase_names, raw_phase, set_of, raw_signal};
 ghost use Rattle.network_file.specs.Range.{IsSignalInRange};
 
-use crate::names::phase_place;
-use crate::numbered::Signals;
+use crate::by_name::{Signals, phase_place};
 use ct_base::{Gate, Listed, Memory, Phase, Signal};
 use network_file::{Name, RawLink, RawPhase, RawSignal};
 use std::alloc::Global;
@@ -80,7 +79,7 @@ fn phase_built(signal: &RawSignal, phase: &RawPhase) -> Phase
 fn phases_of(alloc: Global, signal: &RawSignal) -> Result<Listed<Phase>, Memory>
     requires { length signal.now.phases ≤ 8 }
     ensures { IfOk result (λ phases. phases ≡ table_of (length signal.now.phases)
-        (λ p. phase_built (phase_names signal.now) (phase_of signal.now p))) }
+        (λ p. phase_built (phase_names signal.now) (raw_phase signal.now p))) }
 {
     let mut phases = Listed::new(alloc);
     for phase in signal.phases.as_slice() {
@@ -105,7 +104,7 @@ fn signal_built(alloc: Global, signal: &RawSignal) -> Result<Signal, Memory>
 pub(crate) fn signals_of(alloc: Global, signals: &[RawSignal]) -> Result<Listed<Signal>, Memory>
     requires { All IsSignalInRange signals.now }
     ensures { IfOk result (λ built. built ≡ table_of (length signals.now)
-        (λ s. signal_built (signal_of signals.now s))) }
+        (λ s. signal_built (raw_signal signals.now s))) }
 {
     let mut built = Listed::new(alloc);
     for signal in signals {

@@ -3,21 +3,24 @@
 #![tactic(auto)]
 
 mod builder;
-mod count;
+mod by_name;
+mod cell_numbers;
 mod fault;
-mod firsts;
 mod gate;
 mod judge;
+pub mod laws;
 mod link;
-mod names;
 mod naming;
 mod network;
-mod numbered;
+mod network_fault;
 mod out;
+mod reader;
 #[cfg(test)]
 mod tests;
 
 pub use builder::build;
 pub use demand::DemandFault;
 pub use fault::{BuildFault, PhaseAt};
-pub use naming::{NamedNet, Names};
+pub use named_net::{NamedNet, Names, Place, SignalNames};
+pub use network_fault::NetworkFault;
+pub use reader::read;

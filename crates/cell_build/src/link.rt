@@ -1,9 +1,9 @@
 //! The cells of a link: a queue where there is demand, and then the road cells from upstream to downstream.
 
 ghost use Rattle.std.specs.Prelude.{◌≡◌, ◌+◌, ◌≤◌, ◌++◌, length, OnOk};
-ghost use Rattle.ct_base.specs.Tables.{table_of};
+ghost use Rattle.listed.specs.Below.{table_of};
 ghost use Rattle.cell_build.specs.Link.{initial_at, queue_to, road_of, road_to};
-ghost use Rattle.cell_build.specs.Queues.{queue_with};
+ghost use Rattle.cell_build.specs.inner.Queues.{queue_with};
 
 use ct_base::{Cell, Gate, Kind, Listed, Memory, Out, Units};
 use network_file::RawLink;

@@ -2,18 +2,17 @@
 
 ghost use Rattle.std.specs.Prelude.{◌≡◌, ◌+◌, ◌<◌, [], length, IfOk, OnOk};
 ghost use Rattle.cell_build.specs.Built.{named_of};
-ghost use Rattle.cell_build.specs.Firsts.{AreFirsts};
+ghost use Rattle.cell_build.specs.inner.Firsts.{AreFirsts};
 ghost use Rattle.cell_build.specs.Link.{cells_of_links};
-ghost use Rattle.cell_build.specs.Names.{link_of};
-ghost use Rattle.cell_build.specs.Queues.{demands_of, queue_demand};
+ghost use Rattle.cell_build.specs.Names.{raw_link};
+ghost use Rattle.cell_build.specs.inner.Queues.{demands_of, queue_demand};
 ghost use Rattle.cell_build.specs.Refusals.{faults_of};
 ghost use Rattle.network_file.specs.Range.{IsInRange};
 
-use crate::count::count_of_cells;
-use crate::firsts::first_cells;
+use crate::by_name::Numbered;
+use crate::cell_numbers::{count_of_cells, first_cells};
 use crate::gate::{gate_of, signals_of};
 use crate::link::{add_queue, add_road};
-use crate::numbered::Numbered;
 use crate::out::out_of;
 use ct_base::{Cell, Listed, Memory, Net, Units};
 use std::alloc::Global;
@@ -75,7 +74,7 @@ fn add_link_at(
     requires no_fault { faults_of raw.now ≡ [] }
     requires firsts { AreFirsts raw.now.links firsts.now }
     requires within { number < length raw.now.links }
-    requires demand { demand ≡ queue_demand raw.now.steps (link_of raw.now.links number).pieces }
+    requires demand { demand ≡ queue_demand raw.now.steps (raw_link raw.now.links number).pieces }
     requires before { cells.old.items
         ≡ cells_of_links raw.now.steps raw.now.signals raw.now.links number }
     ensures { OnOk result (cells.new.items

@@ -1,11 +1,11 @@
 //! Where links lead.
 
 ghost use Rattle.std.specs.Prelude.{◌≡◌, map, IfOk};
-ghost use Rattle.cell_build.specs.Firsts.{AreFirsts};
+ghost use Rattle.cell_build.specs.inner.Firsts.{AreFirsts};
 ghost use Rattle.cell_build.specs.Link.{out_by, road_named};
 
-use crate::firsts::road_named;
-use crate::numbered::Links;
+use crate::by_name::Links;
+use crate::cell_numbers::road_named;
 use ct_base::{Listed, Memory, Out, Turns};
 use network_file::{Name, RawLink};
 use std::alloc::Global;

@@ -2,7 +2,7 @@
 
 ghost use Rattle.std.specs.Prelude.{◌<◌, length};
 
-use crate::{BuildFault, NamedNet, build};
+use crate::{BuildFault, DemandFault, NamedNet, PhaseAt, build};
 use ct_base::{Cell, Kind, Out, Signal};
 use network_file::read;
 use std::alloc::{AllocError, Global};
@@ -143,5 +143,42 @@ fn the_first_fault_is_told(rt: HostRuntime) -> Result<(), Fail> {
     let raw = read(rt.alloc(), text.as_bytes()).map_err(|_| "not read")?;
     let fault = build(rt.alloc(), raw).err();
     assert_eq!(rt; fault, Some(BuildFault::Itself { link: 1 }));
+    Ok(())
+}
+
+/// Faults with the sentences that they are shown by.
+const SENTENCES: [(BuildFault, &str); 5] = [
+    (
+        BuildFault::UnknownPhase {
+            at: PhaseAt::Green(3, 1),
+        },
+        "green 1 of link 3 is no phase of its signal",
+    ),
+    (
+        BuildFault::UnknownPhase {
+            at: PhaseAt::Next(0, 2, 5),
+        },
+        "follower 5 of phase 2 of signal 0 is no phase of its signal",
+    ),
+    (BuildFault::Itself { link: 7 }, "link 7 leads to itself"),
+    (
+        BuildFault::Cells { count: 257 },
+        "there are 257 cells, and at most 256 may be",
+    ),
+    (
+        BuildFault::Demand {
+            link: 2,
+            fault: DemandFault::Heavy { step: 9 },
+        },
+        "the demand of link 2: more than 1000 units arrive in step 9",
+    ),
+];
+
+#[test]
+fn a_fault_is_shown_by_a_sentence(rt: HostRuntime) -> Result<(), Fail> {
+    for (fault, sentence) in &SENTENCES {
+        let shown = format!(in rt.alloc(); "{fault}")?;
+        assert_eq!(rt; shown.as_str(), *sentence);
+    }
     Ok(())
 }

@@ -1,3 +1,2 @@
 pub mod Access
-pub mod Tables
 pub mod Validity

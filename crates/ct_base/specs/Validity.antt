@@ -1,6 +1,7 @@
 -- When a network is valid (docs/traffic.md, "A valid network").
 use Rattle.std.specs.Prelude.{◌≡◌, ◌≢◌, ℕ, ◌<◌, ◌≤◌, ◌^◌, List, [], length, Option, Some, None, IfSome, All, AllPairs, EachIndex, Contains, bit_and}
 use Rattle.std.specs.Int.{bit_at}
+use Rattle.limits.specs.declared.TheConstants.{MAX_BRANCHES, MAX_CAPACITY, MAX_CELLS, MAX_CLEAR, MAX_DEMAND, MAX_GREEN, MAX_PARCEL, MAX_PHASES, MAX_SIGNALS, MAX_STEPS, MAX_STORAGE, MAX_WAVE, MIN_BRANCHES, MIN_PHASES}
 use Rattle.ct_base.specs.Access.{cell_of, signal_of, phase_of, targets}
 use Rattle.ct_base.specs.declared.net.Net.{Net}
 use Rattle.ct_base.specs.declared.cell.Cell.{Cell}
@@ -18,16 +19,16 @@ IsBetween low high n = (low ≤ n) × (n ≤ high)
 
 -- a phase: its limits, and that a phase other than itself may follow
 pub record IsPhase (phases p : ℕ) (phase : Phase) : Type 0 where
-  pub min : IsBetween 1 60 phase.min
-  pub max : IsBetween phase.min 60 phase.max
-  pub clear : phase.clear ≤ 20
+  pub min : IsBetween 1 MAX_GREEN phase.min
+  pub max : IsBetween phase.min MAX_GREEN phase.max
+  pub clear : phase.clear ≤ MAX_CLEAR
   pub followed : 1 ≤ phase.next
   pub followed_by_phases : phase.next < 2 ^ phases
   pub not_by_itself : bit_at phase.next p ≡ 0
 
 -- a signal has 2 to 8 phases that are valid, and starts with one of them
 pub record IsSignal (signal : Signal) : Type 0 where
-  pub phases : IsBetween 2 8 (length signal.phases)
+  pub phases : IsBetween MIN_PHASES MAX_PHASES (length signal.phases)
   pub start : signal.start < length signal.phases
   pub each : EachIndex signal.phases (λ p. IsPhase (length signal.phases) p (phase_of signal p))
 
@@ -46,13 +47,13 @@ pub record IsQueue (steps : ℕ) (cell : Cell) : Type 0 where
   pub initial : cell.initial ≡ 0
   pub out : (b : ℕ) × (cell.out ≡ To b)
   pub demand : length cell.demand ≡ steps
-  pub demand_in_range : All (λ units. units ≤ 1000) cell.demand
+  pub demand_in_range : All (λ units. units ≤ MAX_DEMAND) cell.demand
 
 -- a road cell has a storage, a wave ratio and units at the start within their limits, and no demand
 pub record IsRoad (cell : Cell) : Type 0 where
-  pub store : IsBetween 1 10000 cell.store
+  pub store : IsBetween 1 MAX_STORAGE cell.store
   pub wave_p : IsBetween 1 cell.wave_q cell.wave_p
-  pub wave_q : cell.wave_q ≤ 100
+  pub wave_q : cell.wave_q ≤ MAX_WAVE
   pub initial : cell.initial ≤ cell.store
   pub demand : cell.demand ≡ []
 
@@ -72,11 +73,11 @@ abbrev pub IsSplit : Out → Type 0
 IsSplit Exit = Unit {0}
 IsSplit (To b) = Unit {0}
 IsSplit (Turns branches) =
-    IsBetween 2 4 (length branches) × AllPairs (λ k m. k ≢ m) (targets (Turns branches)) × All (λ (branch : ℕ × ℕ). IsBetween 1 100 branch.1) branches
+    IsBetween MIN_BRANCHES MAX_BRANCHES (length branches) × AllPairs (λ k m. k ≢ m) (targets (Turns branches)) × All (λ (branch : ℕ × ℕ). IsBetween 1 MAX_PARCEL branch.1) branches
 
 -- cell i of a network
 pub record IsCell (net : Net) (i : ℕ) (cell : Cell) : Type 0 where
-  pub cap : IsBetween 1 1000 cell.cap
+  pub cap : IsBetween 1 MAX_CAPACITY cell.cap
   pub kind : IsOfKind cell.kind net.steps cell
   pub gate : IfSome cell.gate (IsGate net.signals)
   pub targets : All (IsTarget net.cells i) (targets cell.out)
@@ -95,9 +96,9 @@ AreSeparated cells i k =
 
 -- a network within the limits whose every part obeys its rules
 pub record IsValid (net : Net) : Type 0 where
-  pub steps : IsBetween 1 240 net.steps
-  pub cells : IsBetween 1 256 (length net.cells)
-  pub signals : length net.signals ≤ 16
+  pub steps : IsBetween 1 MAX_STEPS net.steps
+  pub cells : IsBetween 1 MAX_CELLS (length net.cells)
+  pub signals : length net.signals ≤ MAX_SIGNALS
   pub each_signal : All IsSignal net.signals
   pub each_cell : EachIndex net.cells (λ i. IsCell net i (cell_of net.cells i))
   pub merges : EachIndex net.cells (λ i. EachIndex net.cells (λ k. i ≢ k → AreSeparated net.cells i k))

@@ -18,6 +18,5 @@ fn networks_are_valid_by_each_rule_and_copies_are_equal(rt: HostRuntime) -> Resu
     networks::try_signals(&rt, alloc)?;
     plain::try_networks(&rt, alloc)?;
     plain::try_plans(&rt, alloc)?;
-    plain::try_programs(&rt, alloc)?;
     Ok(())
 }

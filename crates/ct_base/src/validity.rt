@@ -10,10 +10,10 @@ mod merge;
 mod moves;
 mod signal;
 
-use crate::limits::{MAX_CELLS, MAX_SIGNALS, MAX_STEPS};
 use crate::net::Net;
 use crate::signal::Signal;
 use cell::is_cell;
+use limits::{MAX_CELLS, MAX_SIGNALS, MAX_STEPS};
 use merge::are_merges_separated;
 use signal::is_signal;
 
@@ -35,7 +35,7 @@ fn is_within_limits(net: &Net) -> bool
     1 <= net.steps
         && net.steps <= MAX_STEPS
         && 1 <= net.cells.len()
-        && net.cells.len() <= MAX_CELLS
+        && net.cells.len() <= MAX_CELLS as usize
         && net.signals.len() <= MAX_SIGNALS
 }
 

@@ -10,13 +10,13 @@ use Rattle.std.proofs.lemmas.List.Concat.{flat_map-append}
 use Rattle.std.proofs.lemmas.List.Folds.{list_all-append, list_any-append, list_any_at}
 use Rattle.std.proofs.lemmas.List.Sums.{position_or_len_is}
 use Rattle.std.proofs.lemmas.Slice.Eq.{bytes_eq-Decides}
-use Rattle.refusals.specs.Faults.{join_below}
+use Rattle.listed.specs.Below.{join_below}
 use Rattle.traffic_model.specs.Runs.{Run}
 use Rattle.phase_rules.specs.Expansion.{run_at}
 use Rattle.texts.specs.Names.{is_name}
-use Rattle.network_file.specs.Range.{all_differ}
-use Rattle.cell_build.specs.Naming.{NameTable, signal_names_at}
-use Rattle.cell_build.specs.declared.naming.SignalNames.{SignalNames}
+use Rattle.texts.specs.Names.{all_differ}
+use Rattle.named_net.specs.Naming.{NameTable, signal_names_at}
+use Rattle.named_net.specs.declared.names.SignalNames.{SignalNames}
 use Rattle.plan_file.specs.Lines.{Line, Head, OfSignal, OfRun, End, Other, Nothing, Cut}
 use Rattle.plan_file.specs.PlanText.{block_text, run_text, runs_at, text_by}
 use Rattle.plan_file.specs.Refusals.{blocks_in, is_end, phase_number, runs_ahead, runs_in_block}

@@ -8,9 +8,10 @@ use Rattle.std.proofs.lemmas.List.{append_assoc, append-nil, get_or_append_left,
 use Rattle.std.proofs.lemmas.List.Folds.{list_any-append}
 use Rattle.std.proofs.lemmas.List.Sums.{passes_at_first}
 use Rattle.std.proofs.lemmas.Slice.Eq.{bytes_eq-Decides}
-use Rattle.refusals.specs.Faults.{join_below, unless, where_so}
+use Rattle.listed.specs.Below.{join_below}
+use Rattle.refusals.specs.Faults.{unless, where_so}
 use Rattle.refusals.proofs.FirstFaults.{BeginsWith}
-use Rattle.refusals.proofs.JoinLaws.{join_below-same}
+use Rattle.listed.proofs.JoinLaws.{join_below-same}
 use Rattle.ct_base.specs.Access.{signal_of}
 use Rattle.ct_base.specs.Validity.{IsSignal}
 use Rattle.ct_base.specs.declared.plan.Letter.{Letter}
@@ -18,12 +19,12 @@ use Rattle.ct_base.specs.declared.signal.Signal.{Signal}
 use Rattle.traffic_model.specs.Runs.{Run, letters_of_runs}
 use Rattle.phase_rules.specs.Expansion.{expanded, faults_at as faults_of_run, short_faults as faults_of_end}
 use Rattle.phase_rules.specs.declared.fault.RunFault.{RunFault}
-use Rattle.cell_build.specs.Naming.{AreSignalNames, IsNamed, Named, NameTable, signal_names_at}
-use Rattle.cell_build.specs.declared.naming.SignalNames.{SignalNames}
+use Rattle.named_net.specs.Naming.{AreSignalNames, IsNamed, Named, NameTable, signal_names_at}
+use Rattle.named_net.specs.declared.names.SignalNames.{SignalNames}
 use Rattle.plan_file.specs.Lines.{Line, Head, OfSignal, OfRun}
 use Rattle.plan_file.specs.PlanText.{runs_at}
 use Rattle.plan_file.specs.Refusals.{block_runs, blocks_in, faults_by, is_end, may_stand, phase_number, run_faults, run_named, runs_in_block, short_faults, signal_faults}
-use Rattle.plan_file.specs.Scan.{Progress, and_then, begun, closed, ran, stepped, with_word}
+use Rattle.plan_file.specs.inner.Scan.{Progress, and_then, begun, closed, ran, stepped, with_word}
 use Rattle.plan_file.specs.declared.fault.PlanFault.{PlanFault}
 use Rattle.plan_file.specs.declared.fault.PlanFault.TheVariants.{Form, Signal as SignalAt, Run as RunAt}
 use Rattle.plan_file.proofs.BlockLaws.{AreKnown, IsKnown, blocks_in-append, blocks_in-below, blocks_in-block, no_end-below, no_end-block, runs_in_block-last}

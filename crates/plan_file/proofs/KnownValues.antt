@@ -2,12 +2,12 @@
 use Rattle.std.proofs.Common.{◌≡◌, [], ◌∷◌, Ok, Err, refl}
 use Rattle.std.specs.Prelude.{codes}
 use Rattle.std.specs.Fmt.{digits}
-use Rattle.refusals.specs.Faults.{join_below}
-use Rattle.ct_base.specs.Tables.{sum_below, table_of}
+use Rattle.listed.specs.Below.{join_below, sum_below, table_of}
 use Rattle.ct_base.specs.declared.plan.Letter.TheVariants.{Green}
 use Rattle.phase_rules.specs.declared.fault.RunFault.TheVariants as faults
-use Rattle.cell_build.specs.Naming.{Named}
-use Rattle.plan_file.specs.Lines.{Head, OfRun, Other, Cut, lines_of}
+use Rattle.texts.specs.Lines.{behind_lines, lines_of}
+use Rattle.named_net.specs.Naming.{Named}
+use Rattle.plan_file.specs.Lines.{Head, OfRun, Other, Cut, lines_in}
 use Rattle.plan_file.specs.PlanText.{text_by}
 use Rattle.plan_file.specs.Refusals.{faults_of}
 use Rattle.plan_file.specs.Spelled.{spelled_plan}
@@ -25,13 +25,13 @@ two_phases = record {
 }
 
 -- a text as its lines
-pub some_lines : lines_of (codes "ctm-plan 1\nsignal 12\nx y z\nend") ≡ Head ∷ OfRun (codes "signal") 12 ∷ Other ∷ Cut ∷ []
-unfolding lines_of
+pub some_lines : lines_in (codes "ctm-plan 1\nsignal 12\nx y z\nend") ≡ Head ∷ OfRun (codes "signal") 12 ∷ Other ∷ Cut ∷ []
+unfolding lines_in lines_of behind_lines
 some_lines = refl
 
 -- the first plan
 pub the_first_plan : spelled_plan two_phases (codes "ctm-plan 1\nsignal s\na 1\nb 1\na 1\nend\n") ≡ Ok (record { words = (Green 0 ∷ Green 1 ∷ Green 0 ∷ []) ∷ [] })
-unfolding spelled_plan lines_of faults_of join_below sum_below table_of
+unfolding spelled_plan lines_in lines_of behind_lines faults_of join_below sum_below table_of
 the_first_plan = refl
 
 -- the text of its runs
@@ -41,36 +41,36 @@ the_text_of_its_runs = refl
 
 -- no block, another signal, a wrong start
 pub nothing_but_the_end : spelled_plan two_phases (codes "ctm-plan 1\nend\n") ≡ Err (Missing 0)
-unfolding spelled_plan lines_of faults_of join_below sum_below table_of
+unfolding spelled_plan lines_in lines_of behind_lines faults_of join_below sum_below table_of
 nothing_but_the_end = refl
 
 pub another_signal : spelled_plan two_phases (codes "ctm-plan 1\nsignal t\n") ≡ Err (Signal 2)
-unfolding spelled_plan lines_of faults_of join_below sum_below table_of
+unfolding spelled_plan lines_in lines_of behind_lines faults_of join_below sum_below table_of
 another_signal = refl
 
 pub a_wrong_start : spelled_plan two_phases (codes "ctm-plan 1\nsignal s\nb 1\n") ≡ Err (Run 3 faults.Start)
-unfolding spelled_plan lines_of faults_of join_below sum_below table_of
+unfolding spelled_plan lines_in lines_of behind_lines faults_of join_below sum_below table_of
 a_wrong_start = refl
 
 -- a phase that the signal does not have follows no other
 pub an_unknown_phase : spelled_plan two_phases (codes "ctm-plan 1\nsignal s\na 1\nc 1\n") ≡ Err (Run 4 (faults.Order 1))
-unfolding spelled_plan lines_of faults_of join_below sum_below table_of
+unfolding spelled_plan lines_in lines_of behind_lines faults_of join_below sum_below table_of
 an_unknown_phase = refl
 
 -- two letters of three, and a run too many
 pub a_block_too_short : spelled_plan two_phases (codes "ctm-plan 1\nsignal s\na 1\nb 1\nend\n") ≡ Err (Run 5 (faults.Short 2))
-unfolding spelled_plan lines_of faults_of join_below sum_below table_of
+unfolding spelled_plan lines_in lines_of behind_lines faults_of join_below sum_below table_of
 a_block_too_short = refl
 
 pub a_run_too_many : spelled_plan two_phases (codes "ctm-plan 1\nsignal s\na 1\nb 1\na 1\nb 1\n") ≡ Err (Run 6 (faults.Surplus 3))
-unfolding spelled_plan lines_of faults_of join_below sum_below table_of
+unfolding spelled_plan lines_in lines_of behind_lines faults_of join_below sum_below table_of
 a_run_too_many = refl
 
 -- a last line without its line feed, and a byte behind the end
 pub no_last_line_feed : spelled_plan two_phases (codes "ctm-plan 1\nsignal s\na 1\nb 1\na 1\nend") ≡ Err (Form 6)
-unfolding spelled_plan lines_of faults_of join_below sum_below table_of
+unfolding spelled_plan lines_in lines_of behind_lines faults_of join_below sum_below table_of
 no_last_line_feed = refl
 
 pub a_byte_behind_the_end : spelled_plan two_phases (codes "ctm-plan 1\nsignal s\na 1\nb 1\na 1\nend\nx") ≡ Err (Form 7)
-unfolding spelled_plan lines_of faults_of join_below sum_below table_of
+unfolding spelled_plan lines_in lines_of behind_lines faults_of join_below sum_below table_of
 a_byte_behind_the_end = refl

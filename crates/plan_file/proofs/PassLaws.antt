@@ -10,14 +10,14 @@ use Rattle.refusals.proofs.FirstFaults.{BeginsWith, unless_begins}
 use Rattle.ct_base.specs.Access.{signal_of}
 use Rattle.ct_base.specs.declared.plan.Letter.{Letter}
 use Rattle.ct_base.specs.declared.plan.Plan.{Plan}
-use Rattle.ct_base.proofs.TableLaws.{fill_elements}
-use Rattle.traffic_model.specs.Runs.{letters_of_runs}
+use Rattle.listed.proofs.TableLaws.{fill_elements}
+use Rattle.traffic_model.specs.Runs.{letters_of_runs, word_of}
 use Rattle.phase_rules.proofs.FitLaws.{Spell, spell_from_expanded}
-use Rattle.cell_build.specs.Naming.{IsNamed, Named, signal_names_at}
-use Rattle.plan_file.specs.Lines.{Line, Head, OfSignal, OfRun, End, Other, Nothing, Cut, lines_of}
-use Rattle.plan_file.specs.PlanText.{runs_at, word_of}
+use Rattle.named_net.specs.Naming.{IsNamed, Named, signal_names_at}
+use Rattle.plan_file.specs.Lines.{Line, Head, OfSignal, OfRun, End, Other, Nothing, Cut, lines_in}
+use Rattle.plan_file.specs.PlanText.{runs_at}
 use Rattle.plan_file.specs.Refusals.{block_runs, blocks_in, faults_by, faults_of, is_end, may_stand, runs_in_block, short_faults}
-use Rattle.plan_file.specs.Scan.{Progress, after_end, and_then, at_first, closed, ended, scan, scanned, stepped, whole}
+use Rattle.plan_file.specs.inner.Scan.{Progress, after_end, and_then, at_first, closed, ended, scan, scanned, stepped, whole}
 use Rattle.plan_file.specs.Spelled.{plan_of, spelled_by, spelled_plan, word_at}
 use Rattle.plan_file.specs.declared.fault.PlanFault.{PlanFault}
 use Rattle.plan_file.specs.declared.fault.PlanFault.TheVariants.{Form, Missing}
@@ -194,9 +194,9 @@ spelled_from named lines (Ok plan) valid judged =
     ap (λ faults. unless faults (plan_of named lines)) (faults_of-in_turn named lines ∙ judged.0) ∙ ap Ok (plan_of-lines named lines plan valid judged.1)
 
 -- what a text spells is what the pass over its lines answers
-pub spelled_is_scanned : (named : Named) (text : List ℕ) → IsNamed named → spelled_plan named text ≡ scanned named (lines_of text)
+pub spelled_is_scanned : (named : Named) (text : List ℕ) → IsNamed named → spelled_plan named text ≡ scanned named (lines_in text)
 unfolding spelled_plan
-spelled_is_scanned named text valid = spelled_from named (lines_of text) (scanned named (lines_of text)) valid (all_judged named (lines_of text) valid (lines_tail text))
+spelled_is_scanned named text valid = spelled_from named (lines_in text) (scanned named (lines_in text)) valid (all_judged named (lines_in text) valid (lines_tail text))
 
 -- where it is a plan, the lines are those of its runs
 pub scanned_lines : (named : Named) (lines : List Line) (plan : Plan) (r : Result Plan PlanFault) → r ≡ Ok plan → Judged named 1 [] lines r → AreOf named lines plan

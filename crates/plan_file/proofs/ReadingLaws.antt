@@ -1,31 +1,32 @@
 -- What the reader keeps: the runs of the open block are counted and have no fault, and what follows from a line's step.
-use Rattle.std.proofs.Common.{◌≡◌, ◌≢◌, ℕ, ◌+◌, ◌<◌, ◌≤◌, true, false, List, [], ◌∷◌, ◌++◌, length, map, get_or, take, Result, Ok, Err, refl, sym, ap, subst, ◌∙◌, arith}
-use Rattle.std.specs.Prelude.{⊤, not, ◌&&◌, nat_lt, ◌==◌, All}
+use Rattle.std.proofs.Common.{◌≡◌, ◌≢◌, inl, inr, ℕ, ◌+◌, ◌<◌, ◌≤◌, true, false, List, [], ◌∷◌, ◌++◌, length, map, get_or, take, Result, Ok, Err, refl, sym, ap, subst, ◌∙◌, arith}
+use Rattle.std.specs.Prelude.{⊤, not, ◌&&◌, nat_lt, ◌==◌}
 use Rattle.std.specs.Str.{bytes_eq}
 use Rattle.std.proofs.lemmas.Bool.{eqb-true, true≢false}
-use Rattle.std.proofs.lemmas.List.{get_or_push, length-append, length-map, length_push, map-append, take_at}
-use Rattle.refusals.specs.Faults.{join_below, unless, where_so}
+use Rattle.std.proofs.lemmas.List.{get_or_push, length-map, length_push, map-append, take_at}
+use Rattle.listed.specs.Below.{join_below, sum_below}
+use Rattle.refusals.specs.Faults.{unless, where_so}
+use Rattle.refusals.specs.Memory.{OrMemory}
 use Rattle.refusals.proofs.FirstFaults.{unless_fine}
 use Rattle.ct_base.specs.Access.{phase_of, signal_of}
 use Rattle.ct_base.specs.declared.plan.Letter.{Letter}
 use Rattle.ct_base.specs.declared.plan.Plan.{Plan}
 use Rattle.ct_base.specs.declared.signal.Signal.{Signal}
-use Rattle.ct_base.specs.Tables.{sum_below}
 use Rattle.traffic_model.specs.Runs.{Run}
 use Rattle.phase_rules.specs.Expansion.{begins_at, faults_at, length_of_run, run_by}
 use Rattle.phase_rules.proofs.JudgeLaws.{begins_at_front, counted_more, run_counts}
-use Rattle.cell_build.specs.Naming.{Named, signal_names_at}
-use Rattle.plan_file.specs.Lines.{Line, Head, OfSignal, OfRun, End, Other, Nothing, Cut, last_of, line_of, lines_of}
-use Rattle.plan_file.specs.Scan.{Progress, after_end, and_then, begun, scan, stepped}
+use Rattle.texts.specs.Lines.{IsFirstLine, IsNoLine}
+use Rattle.named_net.specs.Naming.{Named, signal_names_at}
+use Rattle.plan_file.specs.Lines.{Line, Head, OfSignal, OfRun, End, Other, Nothing, Cut, ending, line_of, lines_in}
+use Rattle.plan_file.specs.inner.Scan.{Progress, after_end, and_then, begun, scan, stepped}
 use Rattle.plan_file.specs.Refusals.{is_end}
-use Rattle.plan_file.specs.Spelled.{Gives}
-use Rattle.plan_file.specs.State.{IsCut, IsReading, Tells, said}
+use Rattle.plan_file.specs.inner.State.{IsReading, Tells, said}
 use Rattle.plan_file.specs.declared.fault.PlanFault.{PlanFault}
 use Rattle.plan_file.specs.declared.fault.PlanFault.TheVariants.{Form, Signal as SignalAt, Run as RunAt, Missing, Memory}
 use Rattle.plan_file.specs.declared.line.Line as read
 use Rattle.plan_file.specs.declared.line.Line.TheVariants as read_lines
 use Rattle.plan_file.specs.declared.reading.Reading.{Reading}
-use Rattle.plan_file.proofs.LineLaws.{lines_of-feed, lines_of-last, text_is}
+use Rattle.plan_file.proofs.LineLaws.{lines_in-first, lines_in-none, no_lines, text_is}
 use Rattle.plan_file.proofs.RunLaws.{AreFine, fine_more}
 use Rattle.plan_file.proofs.TailLaws.{IsTail, lines_tail}
 
@@ -120,13 +121,12 @@ block_is_begun named n name r progress count runs is counted own none =
 
 -- ---- behind the end
 
-pub nothing_behind : (n : ℕ) (progress : Progress) (behind : List ℕ) → (length behind == 0) ≡ true → after_end n progress (lines_of behind) ≡ Ok (record { words = progress.words })
-unfolding lines_of
-nothing_behind n progress [] none = refl
+pub nothing_behind : (n : ℕ) (progress : Progress) (behind : List ℕ) → (length behind == 0) ≡ true → after_end n progress (lines_in behind) ≡ Ok (record { words = progress.words })
+nothing_behind n progress [] none = ap (after_end n progress) no_lines
 nothing_behind n progress (byte ∷ bytes) none = absurd (let count = eqb-true (length (byte ∷ bytes)) 0 none in omega arith)
 
 -- a line that is not nothing
-not_nothing : (n : ℕ) (progress : Progress) (behind : List ℕ) (lines : List Line) → lines_of behind ≡ lines → IsTail lines → 0 < length behind → after_end n progress lines ≡ Err (Form n)
+not_nothing : (n : ℕ) (progress : Progress) (behind : List ℕ) (lines : List Line) → lines_in behind ≡ lines → IsTail lines → 0 < length behind → after_end n progress lines ≡ Err (Form n)
 not_nothing n progress behind [] is tail some = absurd tail
 not_nothing n progress behind (Nothing ∷ next ∷ lines) is tail some = absurd tail.0
 not_nothing n progress behind (Nothing ∷ []) is tail some = absurd (let none = ap length (text_is behind [] is refl) in omega arith)
@@ -137,9 +137,9 @@ not_nothing n progress behind (End ∷ lines) is tail some = refl
 not_nothing n progress behind (Other ∷ lines) is tail some = refl
 not_nothing n progress behind (Cut ∷ lines) is tail some = refl
 
-pub something_behind : (n : ℕ) (progress : Progress) (behind : List ℕ) → (length behind == 0) ≡ false → after_end n progress (lines_of behind) ≡ Err (Form n)
+pub something_behind : (n : ℕ) (progress : Progress) (behind : List ℕ) → (length behind == 0) ≡ false → after_end n progress (lines_in behind) ≡ Err (Form n)
 something_behind n progress [] some = absurd (true≢false some)
-something_behind n progress (byte ∷ bytes) some = not_nothing n progress (byte ∷ bytes) (lines_of (byte ∷ bytes)) refl (lines_tail (byte ∷ bytes)) (omega arith)
+something_behind n progress (byte ∷ bytes) some = not_nothing n progress (byte ∷ bytes) (lines_in (byte ∷ bytes)) refl (lines_tail (byte ∷ bytes)) (omega arith)
 
 -- ---- one line more of the pass
 
@@ -154,35 +154,26 @@ scan_line named n progress Nothing lines other = refl
 scan_line named n progress Cut lines other = refl
 
 -- no line is left
-pub scan_last : (named : Named) (n : ℕ) (progress : Progress) (text : List ℕ) → scan named n progress (last_of text ∷ []) ≡ Err (Form n)
+pub scan_last : (named : Named) (n : ℕ) (progress : Progress) (text : List ℕ) → scan named n progress (ending text ∷ []) ≡ Err (Form n)
 scan_last named n progress [] = refl
 scan_last named n progress (byte ∷ bytes) = refl
 
 -- ---- from a line that is cut off to what all lines come to
 
 -- a text that is cut at its first line feed begins with a line
-pub rest_is : (named : Named) (n : ℕ) (progress : Progress) (rest bytes behind : List ℕ) (line : Line) (whole : Result Plan PlanFault) → IsCut 10 rest bytes behind → line ≡ line_of bytes →
-    scan named n progress (lines_of rest) ≡ whole → scan named n progress (line ∷ lines_of behind) ≡ whole
-rest_is named n progress rest bytes behind line whole cut line_is same =
-    ap (scan named n progress) (ap (λ line. line ∷ lines_of behind) line_is ∙ sym (lines_of-feed bytes behind cut.first) ∙ ap lines_of (sym cut.joined)) ∙ same
+pub rest_is : (named : Named) (n : ℕ) (progress : Progress) (rest bytes behind : List ℕ) (line : Line) (whole : Result Plan PlanFault) → IsFirstLine rest bytes behind → line ≡ line_of bytes →
+    scan named n progress (lines_in rest) ≡ whole → scan named n progress (line ∷ lines_in behind) ≡ whole
+rest_is named n progress rest bytes behind line whole first line_is same =
+    ap (scan named n progress) (ap (λ line. line ∷ lines_in behind) line_is ∙ sym (lines_in-first rest bytes behind first)) ∙ same
 
 -- a refusal of a line is that of the whole
 pub refusal_is_whole : (fault : PlanFault) (told : Result Progress PlanFault) (next : Progress) (go_on : Progress → Result Plan PlanFault) (whole : Result Plan PlanFault) →
-    Tells (Err fault) told next → and_then told go_on ≡ whole → Gives (Err fault) whole
-refusal_is_whole (Form n) told next go_on whole tells same = sym same ∙ ap (λ told. and_then told go_on) tells
-refusal_is_whole (SignalAt n) told next go_on whole tells same = sym same ∙ ap (λ told. and_then told go_on) tells
-refusal_is_whole (RunAt n fault) told next go_on whole tells same = sym same ∙ ap (λ told. and_then told go_on) tells
-refusal_is_whole (Missing s) told next go_on whole tells same = sym same ∙ ap (λ told. and_then told go_on) tells
-refusal_is_whole Memory told next go_on whole tells same = tt
-
--- an answer that is known
-pub answer_is_given : (answer whole : Result Plan PlanFault) → whole ≡ answer → Gives answer whole
-answer_is_given (Ok plan) whole is = is
-answer_is_given (Err (Form n)) whole is = is
-answer_is_given (Err (SignalAt n)) whole is = is
-answer_is_given (Err (RunAt n fault)) whole is = is
-answer_is_given (Err (Missing s)) whole is = is
-answer_is_given (Err Memory) whole is = tt
+    Tells (Err fault) told next → and_then told go_on ≡ whole → OrMemory Memory whole (Err fault)
+refusal_is_whole (Form n) told next go_on whole tells same = inl (sym (ap (λ told. and_then told go_on) tells) ∙ same)
+refusal_is_whole (SignalAt n) told next go_on whole tells same = inl (sym (ap (λ told. and_then told go_on) tells) ∙ same)
+refusal_is_whole (RunAt n fault) told next go_on whole tells same = inl (sym (ap (λ told. and_then told go_on) tells) ∙ same)
+refusal_is_whole (Missing s) told next go_on whole tells same = inl (sym (ap (λ told. and_then told go_on) tells) ∙ same)
+refusal_is_whole Memory told next go_on whole tells same = inr refl
 
 -- a line is not the end where the reader's is not
 pub said_is_no_end : (line : read.Line) → line ≢ read_lines.End → is_end (said line) ≡ false
@@ -193,15 +184,11 @@ said_is_no_end read_lines.End other = absurd (other refl)
 said_is_no_end read_lines.Other other = refl
 
 -- without a line feed there is no further line
-pub no_line_left : (named : Named) (n : ℕ) (progress : Progress) (text : List ℕ) → All (λ x. (x == 10) ≡ false) text → scan named n progress (lines_of text) ≡ Err (Form n)
-no_line_left named n progress text none = ap (scan named n progress) (lines_of-last text none) ∙ scan_last named n progress text
+pub no_line_left : (named : Named) (n : ℕ) (progress : Progress) (text : List ℕ) → IsNoLine text → scan named n progress (lines_in text) ≡ Err (Form n)
+no_line_left named n progress text none = ap (scan named n progress) (lines_in-none text none) ∙ scan_last named n progress text
 
 -- a line's step, and the pass over those behind it
-pub line_is_taken : (named : Named) (n : ℕ) (progress : Progress) (rest bytes behind : List ℕ) (line : read.Line) (whole : Result Plan PlanFault) → IsCut 10 rest bytes behind → said line ≡ line_of bytes → line ≢ read_lines.End →
-    scan named n progress (lines_of rest) ≡ whole → and_then (stepped named n progress (said line)) (λ progress. scan named (n + 1) progress (lines_of behind)) ≡ whole
+pub line_is_taken : (named : Named) (n : ℕ) (progress : Progress) (rest bytes behind : List ℕ) (line : read.Line) (whole : Result Plan PlanFault) → IsFirstLine rest bytes behind → said line ≡ line_of bytes → line ≢ read_lines.End →
+    scan named n progress (lines_in rest) ≡ whole → and_then (stepped named n progress (said line)) (λ progress. scan named (n + 1) progress (lines_in behind)) ≡ whole
 line_is_taken named n progress rest bytes behind line whole cut line_is other same =
-    sym (scan_line named n progress (said line) (lines_of behind) (said_is_no_end line other)) ∙ rest_is named n progress rest bytes behind (said line) whole cut line_is same
-
--- what is left grows shorter
-pub behind_is_shorter : (rest bytes behind : List ℕ) → IsCut 10 rest bytes behind → length behind + 1 ≤ length rest
-behind_is_shorter rest bytes behind cut = omega (arith, ap length cut.joined, length-append bytes (10 ∷ behind))
+    sym (scan_line named n progress (said line) (lines_in behind) (said_is_no_end line other)) ∙ rest_is named n progress rest bytes behind (said line) whole cut line_is same

@@ -2,9 +2,10 @@
 use Rattle.std.proofs.Common.{◌≡◌, ℕ, zero, suc, ◌-◌, ◌<◌, ◌≤◌, List, [], ◌∷◌, ◌++◌, length, Ok, refl, sym, ap, ◌∙◌, arith}
 use Rattle.std.specs.Prelude.{take}
 use Rattle.std.proofs.lemmas.List.{get_or_append_left, length_push}
-use Rattle.refusals.specs.Faults.{join_below, unless}
+use Rattle.listed.specs.Below.{join_below}
+use Rattle.refusals.specs.Faults.{unless}
 use Rattle.refusals.proofs.FirstFaults.{unless_fine}
-use Rattle.refusals.proofs.JoinLaws.{append_none, join_below-same, join_none}
+use Rattle.listed.proofs.JoinLaws.{append_none, join_below-same, join_none}
 use Rattle.ct_base.specs.Validity.{IsSignal}
 use Rattle.ct_base.specs.declared.plan.Letter.{Letter}
 use Rattle.ct_base.specs.declared.signal.Signal.{Signal}
@@ -13,7 +14,7 @@ use Rattle.phase_rules.specs.Expansion.{begins_at, expanded, faults_at, faults_o
 use Rattle.phase_rules.proofs.FitLaws.{IsFit, fit_from_none}
 use Rattle.phase_rules.proofs.JudgeLaws.{faults_same}
 use Rattle.phase_rules.proofs.WordLaws.{HasPhases, next_has_phases, start_has_phases}
-use Rattle.cell_build.specs.declared.naming.SignalNames.{SignalNames}
+use Rattle.named_net.specs.declared.names.SignalNames.{SignalNames}
 use Rattle.plan_file.proofs.BlockLaws.{AreKnown}
 
 -- each run so far has no fault

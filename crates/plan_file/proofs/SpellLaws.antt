@@ -5,27 +5,28 @@ use Rattle.std.specs.Str.{bytes_eq}
 use Rattle.std.proofs.lemmas.Bool.{and_from, le-ltb, lt-ltb}
 use Rattle.std.proofs.lemmas.List.{append_assoc, append-nil, ext_get_or, get_or_at, length-append, length_push, length-take-le, take_all, take_more}
 use Rattle.std.proofs.lemmas.Slice.Eq.{bytes_eq-Decides}
-use Rattle.refusals.specs.Faults.{join_below, unless, where_so}
-use Rattle.refusals.proofs.JoinLaws.{join_none}
+use Rattle.listed.specs.Below.{join_below}
+use Rattle.refusals.specs.Faults.{unless, where_so}
+use Rattle.listed.proofs.JoinLaws.{join_none}
 use Rattle.ct_base.specs.Access.{signal_of}
 use Rattle.ct_base.specs.Validity.{IsSignal}
 use Rattle.ct_base.specs.declared.plan.Letter.{Letter}
 use Rattle.ct_base.specs.declared.plan.Plan.{Plan}
 use Rattle.ct_base.specs.declared.signal.Signal.{Signal}
-use Rattle.traffic_model.specs.Runs.{IsAdmissiblePlan, Run}
+use Rattle.traffic_model.specs.Runs.{IsAdmissiblePlan, Run, word_of}
 use Rattle.phase_rules.specs.Expansion.{expanded, faults_at, run_by}
 use Rattle.phase_rules.proofs.PhaseLaws.{expanded_is_admissible, expanded_length, expanded_once}
-use Rattle.cell_build.specs.Naming.{AreSignalNames, IsNamed, Named, NameTable, signal_names_at}
-use Rattle.cell_build.specs.declared.naming.SignalNames.{SignalNames}
-use Rattle.plan_file.specs.Lines.{Line, End, Nothing, lines_of}
-use Rattle.plan_file.specs.PlanText.{Spells, runs_at, text_by, word_of}
+use Rattle.named_net.specs.Naming.{AreSignalNames, IsNamed, Named, NameTable, signal_names_at}
+use Rattle.named_net.specs.declared.names.SignalNames.{SignalNames}
+use Rattle.plan_file.specs.Lines.{Line, End, Nothing, lines_in}
+use Rattle.plan_file.specs.PlanText.{Spells, runs_at, text_by}
 use Rattle.plan_file.specs.Refusals.{run_named, signal_faults}
-use Rattle.plan_file.specs.Scan.{Progress, after_end, and_then, at_first, begun, closed, scan, scanned, whole, with_word}
+use Rattle.plan_file.specs.inner.Scan.{Progress, after_end, and_then, at_first, begun, closed, scan, scanned, whole, with_word}
 use Rattle.plan_file.specs.Spelled.{spelled_plan}
 use Rattle.plan_file.specs.declared.fault.PlanFault.TheVariants.{Run as RunAt, Signal as SignalAt, Missing}
 use Rattle.plan_file.proofs.BlockLaws.{IsBlock, IsKnown, phase_number-at, plan_is_good, plan_text_is}
 use Rattle.plan_file.proofs.JudgedLaws.{own_known}
-use Rattle.plan_file.proofs.LineLaws.{read_back, text_is}
+use Rattle.plan_file.proofs.LineLaws.{no_lines, read_back, text_is}
 use Rattle.plan_file.proofs.PassLaws.{all_judged, scanned_lines, spelled_is_scanned}
 use Rattle.plan_file.proofs.RunLaws.{AreFine, expanded_is_fine, faults_at-front}
 use Rattle.plan_file.proofs.TailLaws.{lines_tail}
@@ -47,7 +48,7 @@ are_blocks named blocks plan valid words each s within =
     }
 
 -- a text of a plan's lines spells it
-pub spells_from_lines : (named : Named) (text : List ℕ) (plan : Plan) → IsNamed named → AreOf named (lines_of text) plan → Spells named text plan
+pub spells_from_lines : (named : Named) (text : List ℕ) (plan : Plan) → IsNamed named → AreOf named (lines_in text) plan → Spells named text plan
 spells_from_lines named text plan valid are =
     let n : ℕ = length named.net.signals in
     record {
@@ -59,19 +60,15 @@ spells_from_lines named text plan valid are =
       each = are.each;
     }
 
-no_lines : lines_of [] ≡ Nothing ∷ []
-unfolding lines_of
-no_lines = refl
-
 -- and the other way round
-pub lines_from_spells : (named : Named) (text : List ℕ) (plan : Plan) → IsNamed named → Spells named text plan → AreOf named (lines_of text) plan
+pub lines_from_spells : (named : Named) (text : List ℕ) (plan : Plan) → IsNamed named → Spells named text plan → AreOf named (lines_in text) plan
 lines_from_spells named text plan valid spells =
     let n : ℕ = length named.net.signals in
     let lines : List Line = plan_lines named.names spells.blocks n in
     record {
       blocks = spells.blocks;
       one_per_signal = spells.one_per_signal;
-      written = ap lines_of (spells.spelled ∙ sym (plan_text_is named.names spells.blocks n valid.one_per_signal) ∙ sym (append-nil (text_of lines)))
+      written = ap lines_in (spells.spelled ∙ sym (plan_text_is named.names spells.blocks n valid.one_per_signal) ∙ sym (append-nil (text_of lines)))
           ∙ read_back lines [] (plan_is_good named.names spells.blocks n (are_blocks named spells.blocks plan valid spells.words spells.each))
           ∙ ap (λ last. lines ++ last) no_lines;
       words = spells.words;
@@ -194,11 +191,11 @@ lines_are_scanned named lines plan valid are =
 pub spells_where_read : (named : Named) (text : List ℕ) (plan : Plan) → IsNamed named → spelled_plan named text ≡ Ok plan → Spells named text plan
 spells_where_read named text plan valid is =
     spells_from_lines named text plan valid
-    (scanned_lines named (lines_of text) plan (scanned named (lines_of text)) (sym (spelled_is_scanned named text valid) ∙ is) (all_judged named (lines_of text) valid (lines_tail text)))
+    (scanned_lines named (lines_in text) plan (scanned named (lines_in text)) (sym (spelled_is_scanned named text valid) ∙ is) (all_judged named (lines_in text) valid (lines_tail text)))
 
 pub read_where_spells : (named : Named) (text : List ℕ) (plan : Plan) → IsNamed named → Spells named text plan → spelled_plan named text ≡ Ok plan
 read_where_spells named text plan valid spells =
-    spelled_is_scanned named text valid ∙ lines_are_scanned named (lines_of text) plan valid (lines_from_spells named text plan valid spells)
+    spelled_is_scanned named text valid ∙ lines_are_scanned named (lines_in text) plan valid (lines_from_spells named text plan valid spells)
 
 -- runs as pairs
 pair_of : Run → ℕ × ℕ

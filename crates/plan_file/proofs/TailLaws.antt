@@ -1,13 +1,13 @@
 -- The lines of a text end with what stands behind the last line feed, and the faults of lines are those of each in its turn.
-use Rattle.std.proofs.Common.{◌≡◌, ℕ, suc, ◌+◌, ◌<◌, List, [], ◌∷◌, ◌++◌, length, get_or, take, refl, sym, ap, ◌∙◌, arith, add-one}
-use Rattle.std.specs.Prelude.{⊤, not, false, ◌==◌}
-use Rattle.std.specs.List.{slice_split}
+use Rattle.std.proofs.Common.{◌≡◌, ℕ, suc, ◌+◌, List, [], ◌∷◌, ◌++◌, length, map, get_or, take, refl, sym, ap, ◌∙◌, add-one}
+use Rattle.std.specs.Prelude.{⊤, not, false}
 use Rattle.std.proofs.lemmas.List.{append_assoc, append-nil, get_or_at, length_push, take_at}
-use Rattle.std.proofs.lemmas.List.Splits.{length-slice_split}
-use Rattle.refusals.specs.Faults.{join_below, where_so}
+use Rattle.listed.specs.Below.{join_below}
+use Rattle.refusals.specs.Faults.{where_so}
 use Rattle.refusals.proofs.FirstFaults.{BeginsWith}
-use Rattle.cell_build.specs.Naming.{Named}
-use Rattle.plan_file.specs.Lines.{Line, Head, OfSignal, OfRun, End, Other, Nothing, Cut, line_of, lines_by, lines_of}
+use Rattle.texts.specs.Lines.{behind_lines, lines_of}
+use Rattle.named_net.specs.Naming.{Named}
+use Rattle.plan_file.specs.Lines.{Line, Head, OfSignal, OfRun, End, Other, Nothing, Cut, ending, line_of, lines_in}
 use Rattle.plan_file.specs.Refusals.{faults_at, faults_by, faults_of, may_stand}
 use Rattle.plan_file.specs.declared.fault.PlanFault.{PlanFault}
 use Rattle.plan_file.specs.declared.fault.PlanFault.TheVariants.{Form}
@@ -41,16 +41,18 @@ line_is_inner bytes Other fits = tt
 line_is_inner bytes Nothing fits = fits
 line_is_inner bytes Cut fits = fits
 
-parts_tail : (parts : List (List ℕ)) → 0 < length parts → IsTail (lines_by parts)
-parts_tail [] some = absurd (omega arith)
-parts_tail ([] ∷ []) some = tt
-parts_tail ((byte ∷ bytes) ∷ []) some = tt
-parts_tail (line ∷ last ∷ []) some = (line_is_inner line (line_of line) (line_fits line), parts_tail (last ∷ []) (omega arith))
-parts_tail (line ∷ next ∷ third ∷ more) some = (line_is_inner line (line_of line) (line_fits line), parts_tail (next ∷ third ∷ more) (omega arith))
+ending_is_last : (text : List ℕ) → IsLast (ending text)
+ending_is_last [] = tt
+ending_is_last (byte ∷ bytes) = tt
 
-pub lines_tail : (text : List ℕ) → IsTail (lines_of text)
-unfolding lines_of
-lines_tail text = parts_tail (slice_split (λ byte. byte == 10) text) (omega (arith, length-slice_split (λ byte. byte == 10) text))
+lines_before : (lines : List (List ℕ)) (last : Line) → IsLast last → IsTail (map line_of lines ++ last ∷ [])
+lines_before [] last is = is
+lines_before (line ∷ []) last is = (line_is_inner line (line_of line) (line_fits line), is)
+lines_before (line ∷ next ∷ more) last is = (line_is_inner line (line_of line) (line_fits line), lines_before (next ∷ more) last is)
+
+pub lines_tail : (text : List ℕ) → IsTail (lines_in text)
+unfolding lines_in
+lines_tail text = lines_before (lines_of text) (ending (behind_lines text)) (ending_is_last (behind_lines text))
 
 -- what stands behind a line
 not_both : (line : Line) → IsInner line → IsLast line → ⊥

@@ -1,23 +1,23 @@
 -- The text that is written: the blocks of the plan's own runs.
-use Rattle.std.proofs.Common.{◌≡◌, ℕ, ◌+◌, ◌<◌, List, [], ◌++◌, length, map, get_or, Ok, sym, ap, subst, ◌∙◌, arith}
+use Rattle.std.proofs.Common.{◌≡◌, ℕ, ◌+◌, ◌<◌, List, [], ◌++◌, length, map, get_or, Ok, refl, sym, ap, subst, ◌∙◌, arith}
 use Rattle.std.specs.Prelude.{All, codes, flat_map}
 use Rattle.std.proofs.lemmas.List.{append-nil, append_assoc, get_or-map, get_or_default, length-map}
-use Rattle.refusals.specs.Faults.{join_below}
-use Rattle.refusals.proofs.JoinLaws.{join_below-suc}
+use Rattle.listed.specs.Below.{join_below}
+use Rattle.listed.proofs.JoinLaws.{join_below-suc}
 use Rattle.ct_base.specs.Access.{signal_of}
 use Rattle.ct_base.specs.Validity.{IsSignal}
 use Rattle.ct_base.specs.declared.plan.Letter.{Letter}
 use Rattle.ct_base.specs.declared.plan.Plan.{Plan}
 use Rattle.ct_base.specs.declared.signal.Signal.{Signal}
-use Rattle.traffic_model.specs.Runs.{IsAdmissiblePlan, Run}
+use Rattle.traffic_model.specs.Runs.{IsAdmissiblePlan, Run, word_of}
 use Rattle.phase_rules.specs.Expansion.{expanded, run_at, run_by}
-use Rattle.phase_rules.specs.Greens.{greens_of}
+use Rattle.phase_rules.specs.inner.Greens.{greens_of}
 use Rattle.phase_rules.proofs.JudgeLaws.{run_at_place}
 use Rattle.phase_rules.proofs.PhaseLaws.{every_admissible_word_has_runs, runs_are_greens}
-use Rattle.cell_build.specs.Naming.{IsNamed, Named, NameTable, signal_names_at}
-use Rattle.cell_build.specs.declared.naming.SignalNames.{SignalNames}
-use Rattle.plan_file.specs.PlanText.{Spells, block_text, run_text, runs_at, text_by, word_of}
-use Rattle.plan_file.specs.Writing.{blocks_of, runs_of, text_below}
+use Rattle.named_net.specs.Naming.{IsNamed, Named, NameTable, signal_names_at}
+use Rattle.named_net.specs.declared.names.SignalNames.{SignalNames}
+use Rattle.plan_file.specs.PlanText.{Spells, block_text, run_text, runs_at, text_by}
+use Rattle.plan_file.specs.inner.Writing.{blocks_of, runs_of, text_below}
 use Rattle.plan_file.proofs.BlockLaws.{IsKnown}
 use Rattle.plan_file.proofs.JudgedLaws.{own_known}
 use Rattle.plan_file.proofs.RunLaws.{expanded_is_fine}
@@ -77,3 +77,10 @@ text_spells named plan n text whole valid admissible count so_far ended =
           ap (λ runs. expanded signal runs named.net.steps) runs ∙ ap (expanded signal (runs_of (word_of plan s))) (sym (admissible.words.letters s within))
           ∙ every_admissible_word_has_runs signal (word_of plan s) own (admissible.each s within));
     }
+
+-- an admissible plan has a text
+pub has_text : (named : Named) (plan : Plan) → IsNamed named → IsAdmissiblePlan named.net plan → (text : List ℕ) × Spells named text plan
+has_text named plan valid admissible =
+    let n : ℕ = length named.net.signals in
+    let text : List ℕ = text_below named.names plan n in
+    (text ++ codes "end\n", text_spells named plan n text (text ++ codes "end\n") valid admissible refl refl refl)

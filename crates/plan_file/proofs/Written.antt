@@ -1,16 +1,16 @@
 -- The lines of a plan text, written out: the bytes of each line, and the lines of a plan's blocks.
 use Rattle.std.specs.Prelude.{◌≡◌, ℕ, Bool, true, false, ◌&&◌, nat_lt, List, [], ◌∷◌, ◌++◌, length, map, flat_map, Ok, codes, slice_index_or, EachIndex}
 use Rattle.std.specs.Fmt.{decimal}
-use Rattle.refusals.specs.Faults.{join_below}
+use Rattle.listed.specs.Below.{join_below}
 use Rattle.ct_base.specs.Access.{signal_of}
 use Rattle.ct_base.specs.declared.plan.Plan.{Plan}
-use Rattle.traffic_model.specs.Runs.{Run}
+use Rattle.traffic_model.specs.Runs.{Run, word_of}
 use Rattle.phase_rules.specs.Expansion.{expanded}
 use Rattle.texts.specs.Names.{is_name}
-use Rattle.cell_build.specs.Naming.{Named, NameTable, signal_names_at}
-use Rattle.cell_build.specs.declared.naming.SignalNames.{SignalNames}
+use Rattle.named_net.specs.Naming.{Named, NameTable, signal_names_at}
+use Rattle.named_net.specs.declared.names.SignalNames.{SignalNames}
 use Rattle.plan_file.specs.Lines.{Line, Head, OfSignal, OfRun, End, Nothing}
-use Rattle.plan_file.specs.PlanText.{runs_at, word_of}
+use Rattle.plan_file.specs.PlanText.{runs_at}
 
 -- the bytes of a line, without its line feed
 abbrev pub bytes_of : Line → List ℕ

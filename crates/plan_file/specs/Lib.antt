@@ -2,6 +2,4 @@ pub mod Lines
 pub mod PlanText
 pub mod Refusals
 pub mod Spelled
-pub mod Scan
-pub mod State
-pub mod Writing
+pub mod inner

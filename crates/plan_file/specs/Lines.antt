@@ -1,7 +1,8 @@
--- The lines of a plan text (docs/plan-file.md, "Lines"): a text is cut at its line feeds, and a line at its spaces.
-use Rattle.std.specs.Prelude.{ℕ, ◌==◌, ◌&&◌, if◌then◌else◌, List, [], ◌∷◌, Option, Some, None, codes}
-use Rattle.std.specs.List.{slice_split}
+-- What the lines of a plan text say (docs/plan-file.md, "Lines").
+use Rattle.std.specs.Prelude.{ℕ, ◌&&◌, if◌then◌else◌, List, [], ◌∷◌, ◌++◌, map, Option, Some, None, codes}
 use Rattle.std.specs.Str.{bytes_eq}
+use Rattle.limits.specs.declared.TheConstants.{GREEN_DIGITS}
+use Rattle.texts.specs.Lines.{behind_lines, lines_of, words_of}
 use Rattle.texts.specs.Names.{is_name}
 use Rattle.texts.specs.Numbers.{natural_in}
 
@@ -21,10 +22,6 @@ pub data Line : Type 0 where
   Nothing : Line
   Cut : Line
 
--- the words of a line: what stands between its spaces
-abbrev pub words_of : List ℕ → List (List ℕ)
-words_of line = slice_split (λ byte. byte == 32) line
-
 -- a line of two words: `signal` and a name, or a name and a number of at most 4 digits
 abbrev pub run_line : List ℕ → Option ℕ → Line
 run_line phase None = Other
@@ -32,7 +29,7 @@ run_line phase (Some green) = if is_name phase then OfRun phase green else Other
 
 -- what a line of two words is
 abbrev pub two_words : List ℕ → List ℕ → Line
-two_words first second = if bytes_eq first (codes "signal") && is_name second then OfSignal second else run_line first (natural_in 4 second)
+two_words first second = if bytes_eq first (codes "signal") && is_name second then OfSignal second else run_line first (natural_in GREEN_DIGITS second)
 
 -- what a line of these words is
 abbrev pub line_by : List (List ℕ) → Line
@@ -44,17 +41,11 @@ line_by words = Other
 abbrev pub line_of : List ℕ → Line
 line_of bytes = if bytes_eq bytes (codes "ctm-plan 1") then Head else line_by (words_of bytes)
 
--- what stands behind the last line feed
-abbrev pub last_of : List ℕ → Line
-last_of [] = Nothing
-last_of (byte ∷ bytes) = Cut
+-- what stands behind the last line feed: nothing, or bytes that lack theirs
+abbrev pub ending : List ℕ → Line
+ending [] = Nothing
+ending (byte ∷ bytes) = Cut
 
--- the lines of a text that was cut at its line feeds
-abbrev pub lines_by : List (List ℕ) → List Line
-lines_by [] = []
-lines_by (last ∷ []) = last_of last ∷ []
-lines_by (line ∷ next ∷ more) = line_of line ∷ lines_by (next ∷ more)
-
--- the lines of a text
-unfoldable pub lines_of : List ℕ → List Line
-lines_of text = lines_by (slice_split (λ byte. byte == 10) text)
+-- what each line of a text says, and what stands behind the last
+unfoldable pub lines_in : List ℕ → List Line
+lines_in text = map line_of (lines_of text) ++ ending (behind_lines text) ∷ []

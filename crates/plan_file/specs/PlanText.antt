@@ -1,18 +1,13 @@
 -- The one text of a plan (docs/plan-file.md): line 1, a block for each signal in its order, and `end`.
 use Rattle.std.specs.Prelude.{◌≡◌, ℕ, List, [], ◌++◌, length, flat_map, Ok, codes, slice_index_or, EachIndex}
 use Rattle.std.specs.Fmt.{decimal}
-use Rattle.refusals.specs.Faults.{join_below}
+use Rattle.listed.specs.Below.{join_below}
 use Rattle.ct_base.specs.Access.{signal_of}
-use Rattle.ct_base.specs.declared.plan.Letter.{Letter}
 use Rattle.ct_base.specs.declared.plan.Plan.{Plan}
-use Rattle.traffic_model.specs.Runs.{Run}
+use Rattle.traffic_model.specs.Runs.{Run, word_of}
 use Rattle.phase_rules.specs.Expansion.{expanded}
-use Rattle.cell_build.specs.Naming.{Named, NameTable, signal_names_at}
-use Rattle.cell_build.specs.declared.naming.SignalNames.{SignalNames}
-
--- the word of signal s
-abbrev pub word_of : Plan → ℕ → List Letter
-word_of plan s = slice_index_or plan.words s []
+use Rattle.named_net.specs.Naming.{Named, NameTable, signal_names_at}
+use Rattle.named_net.specs.declared.names.SignalNames.{SignalNames}
 
 -- `PHASE GREEN`
 abbrev pub run_text : SignalNames → Run → List ℕ

@@ -3,11 +3,12 @@
 use Rattle.std.specs.Prelude.{ℕ, zero, suc, ◌+◌, Bool, true, false, not, ◌&&◌, nat_lt, List, [], ◌∷◌, ◌++◌, length, map, take, position, unwrap_or, slice_index_or}
 use Rattle.std.specs.List.{list_any}
 use Rattle.std.specs.Str.{bytes_eq}
-use Rattle.refusals.specs.Faults.{join_below, where_so}
+use Rattle.listed.specs.Below.{join_below}
+use Rattle.refusals.specs.Faults.{where_so}
 use Rattle.ct_base.specs.Access.{signal_of}
 use Rattle.traffic_model.specs.Runs.{Run}
 use Rattle.phase_rules.specs.Expansion as runs
-use Rattle.cell_build.specs.Naming.{Named, signal_names_at}
+use Rattle.named_net.specs.Naming.{Named, signal_names_at}
 use Rattle.plan_file.specs.Lines.{Line, Head, OfSignal, OfRun, End, Nothing}
 use Rattle.plan_file.specs.declared.fault.PlanFault.{PlanFault}
 use Rattle.plan_file.specs.declared.fault.PlanFault.TheVariants.{Form, Signal, Run as RunAt, Missing}

@@ -1,16 +1,15 @@
 -- The plan that the bytes of a file spell, or the first refusal (docs/plan-file.md).
-use Rattle.std.specs.Prelude.{◌≡◌, ℕ, List, length, take, Result, Ok, Err}
+use Rattle.std.specs.Prelude.{ℕ, List, length, take, Result}
 use Rattle.refusals.specs.Faults.{unless}
 use Rattle.ct_base.specs.Access.{signal_of}
-use Rattle.ct_base.specs.Tables.{table_of}
+use Rattle.listed.specs.Below.{table_of}
 use Rattle.ct_base.specs.declared.plan.Letter.{Letter}
 use Rattle.ct_base.specs.declared.plan.Plan.{Plan}
 use Rattle.traffic_model.specs.Runs.{letters_of_runs}
-use Rattle.cell_build.specs.Naming.{Named}
-use Rattle.plan_file.specs.Lines.{Line, lines_of}
+use Rattle.named_net.specs.Naming.{Named}
+use Rattle.plan_file.specs.Lines.{Line, lines_in}
 use Rattle.plan_file.specs.Refusals.{block_runs, faults_of}
 use Rattle.plan_file.specs.declared.fault.PlanFault.{PlanFault}
-use Rattle.plan_file.specs.declared.fault.PlanFault.TheVariants.{Memory}
 
 -- the word of block s: the letters of its runs inside the horizon
 abbrev pub word_at : Named → List Line → ℕ → List Letter
@@ -26,10 +25,4 @@ spelled_by named lines = unless (faults_of named lines) (plan_of named lines)
 
 -- the plan that a text spells for a network, or the first fault
 unfoldable pub spelled_plan : Named → List ℕ → Result Plan PlanFault
-spelled_plan named text = spelled_by named (lines_of text)
-
--- an answer is what is spelled; want of memory says nothing
-abbrev pub Gives : Result Plan PlanFault → Result Plan PlanFault → Type 0
-Gives (Err Memory) spelled = Unit {0}
-Gives (Ok plan) spelled = spelled ≡ Ok plan
-Gives (Err fault) spelled = spelled ≡ Err fault
+spelled_plan named text = spelled_by named (lines_in text)

@@ -2,12 +2,12 @@
 #![tactic(auto)]
 
 mod fault;
+#[cfg(test)]
+mod fault_tests;
 pub mod laws;
 mod line;
 mod reader;
 mod reading;
-#[cfg(test)]
-mod tests;
 mod writer;
 
 pub use fault::PlanFault;

@@ -1,10 +1,11 @@
-//! The lines of a plan text: where one ends, and what it says.
+//! What a line of a plan text says.
 
-ghost use Rattle.std.specs.Prelude.{◌≡◌, ◌==◌, false, All, MatchOption};
+ghost use Rattle.std.specs.Prelude.{◌≡◌};
 ghost use Rattle.plan_file.specs.Lines.{line_of, two_words};
-ghost use Rattle.plan_file.specs.State.{IsCut, said};
+ghost use Rattle.plan_file.specs.inner.State.{said};
 
-use texts::{is_name, natural};
+use limits::GREEN_DIGITS;
+use texts::{is_name, natural, take_word};
 
 /// The first line.
 pub(crate) const HEAD: &[u8] = b"ctm-plan 1";
@@ -12,8 +13,6 @@ pub(crate) const HEAD: &[u8] = b"ctm-plan 1";
 const SIGNAL: &[u8] = b"signal";
 /// The last line.
 const END: &[u8] = b"end";
-/// The most digits of a green.
-const GREEN_DIGITS: usize = 4;
 
 /// What a line says. Names are bytes of the text.
 #[derive(Clone, Copy)]
@@ -30,14 +29,6 @@ pub(crate) enum Line<'a> {
     Other,
 }
 
-/// What stands before the first byte of this kind, and what behind it.
-pub(crate) fn cut(text: &[u8], byte: u8) -> Option<(&[u8], &[u8])>
-    ensures { MatchOption result (All (λ x. (x == byte) ≡ false) text.now) (λ parts. IsCut byte text.now parts.0.now parts.1.now) }
-{
-    let place = text.iter().position(|other| *other == byte)?;
-    Some((&text[..place], &text[place + 1..]))
-}
-
 /// What the bytes of a line say.
 pub(crate) fn line_of(bytes: &[u8]) -> Line<'_>
     ensures { said result ≡ line_of bytes.now }
@@ -45,7 +36,7 @@ pub(crate) fn line_of(bytes: &[u8]) -> Line<'_>
     if bytes == HEAD {
         return Line::Head;
     }
-    match cut(bytes, b' ') {
+    match take_word(bytes) {
         Some((first, second)) => two_words(first, second),
         None if bytes == END => Line::End,
         None => Line::Other,

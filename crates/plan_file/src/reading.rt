@@ -5,16 +5,16 @@ ghost use Rattle.std.specs.Str.{bytes_eq};
 ghost use Rattle.ct_base.specs.Access.{phase_of};
 ghost use Rattle.ct_base.specs.Validity.{IsBetween, IsSignal};
 ghost use Rattle.phase_rules.specs.Expansion.{expanded, run_by};
-ghost use Rattle.cell_build.specs.Naming.{Named, signal_names_at};
-ghost use Rattle.plan_file.specs.Lines.{OfRun, OfSignal, lines_of};
+ghost use Rattle.named_net.specs.Naming.{Named, signal_names_at};
+ghost use Rattle.plan_file.specs.Lines.{OfRun, OfSignal, lines_in};
 ghost use Rattle.plan_file.specs.Refusals.{phase_number};
-ghost use Rattle.plan_file.specs.Scan.{after_end, at_first, closed, ended, stepped};
-ghost use Rattle.plan_file.specs.State.{IsReading, Tells, TellsWord, progress_of, said};
+ghost use Rattle.plan_file.specs.inner.Scan.{after_end, at_first, closed, ended, stepped};
+ghost use Rattle.plan_file.specs.inner.State.{IsReading, Tells, TellsWord, progress_of, said};
 
 use crate::fault::PlanFault;
 use crate::line::Line;
-use cell_build::NamedNet;
 use ct_base::{Listed, Plan, Signal, Word};
+use named_net::NamedNet;
 use phase_rules::{RunFault, expand, judge_run};
 use std::alloc::Global;
 
@@ -46,7 +46,7 @@ impl Reading {
     }
 
     /// Takes a line of the number, which is not `end`.
-    pub(crate) fn take_line(
+    pub(crate) fn take(
         &mut self,
         alloc: Global,
         named: &NamedNet,
@@ -150,7 +150,7 @@ impl Reading {
 
     /// The plan, where nothing stands behind the line `end`; the line behind it has the number.
     pub(crate) fn into_plan(self, number: u64, behind: &[u8]) -> Result<Plan, PlanFault>
-        ensures { result ≡ after_end number (progress_of self) (lines_of behind.now) }
+        ensures { result ≡ after_end number (progress_of self) (lines_in behind.now) }
     {
         if !behind.is_empty() {
             return Err(PlanFault::Form(number));

@@ -4,12 +4,12 @@ ghost use Rattle.std.specs.Prelude.{◌≡◌, ◌<◌, ◌++◌, All, flat_map,
 ghost use Rattle.ct_base.specs.Access.{signal_of};
 ghost use Rattle.traffic_model.specs.Runs.{IsAdmissible, IsAdmissiblePlan};
 ghost use Rattle.phase_rules.specs.Expansion.{run_by};
-ghost use Rattle.cell_build.specs.Naming.{signal_names_at};
+ghost use Rattle.named_net.specs.Naming.{signal_names_at};
 ghost use Rattle.plan_file.specs.PlanText.{Spells, block_text, run_text};
-ghost use Rattle.plan_file.specs.Writing.{runs_of, text_below};
+ghost use Rattle.plan_file.specs.inner.Writing.{runs_of, text_below};
 
-use cell_build::NamedNet;
 use ct_base::{Letter, Memory, Plan};
+use named_net::NamedNet;
 use phase_rules::runs;
 use std::alloc::Global;
 

@@ -10,7 +10,7 @@ use Rattle.texts.specs.Names.{is_name, is_name_character, is_small_letter}
 use Rattle.texts.specs.Numbers.{is_digit}
 use Rattle.texts.proofs.NameLaws.{name_characters}
 use Rattle.texts.proofs.NumberLaws.{numerals}
-use Rattle.plan_report.specs.Writing.{is_plain}
+use Rattle.plan_report.specs.inner.Writing.{is_plain}
 use Rattle.csv.specs.Writing.{default_writer, field_text, fields_text, is_blank, needs_byte, needs_quotes, row_text}
 
 -- a name is plain

@@ -5,11 +5,10 @@ use Rattle.std.specs.Fmt.{decimal}
 use Rattle.std.proofs.lemmas.List.Elements.{All-get_or}
 use Rattle.texts.specs.Names.{is_name}
 use Rattle.csv.specs.Writing.{default_writer, row_text}
-use Rattle.cell_build.specs.Naming.{IsNamed, NameTable, Named, place_at}
-use Rattle.cell_build.specs.declared.naming.Place.{Place}
+use Rattle.named_net.specs.Naming.{IsNamed, NameTable, Named, place_at}
 use Rattle.cell_replay.specs.declared.lines.Line.{Line}
 use Rattle.plan_report.specs.Table.{line_text, link_text, place_text}
-use Rattle.plan_report.specs.Writing.{is_plain}
+use Rattle.plan_report.specs.inner.Writing.{is_plain}
 use Rattle.plan_report.proofs.PlainFields.{decimal_plain, name_plain, record_plain}
 
 -- the names of the columns as a record
@@ -18,9 +17,7 @@ header_is_record = record_plain (codes "step") (codes "link") (codes "cell" ∷ 
 
 -- the link of a cell is there
 link_is_there : (named : Named) (cell : ℕ) → IsNamed named → cell < length named.net.cells → (place_at named.names cell).link < length named.names.links
-link_is_there named cell fits within =
-    let place = fits.one_per_cell in
-    All-get_or (λ (place : Place). place.link < length named.names.links) named.names.places cell _ (omega arith) fits.places
+link_is_there named cell fits within = (fits.each_cell cell (omega (arith, fits.one_per_cell))).link
 
 -- its name is plain
 pub link_plain : (named : Named) (cell : ℕ) → IsNamed named → cell < length named.net.cells → is_plain (link_text named.names cell) ≡ true

@@ -1,3 +1,2 @@
-pub mod FaultLines
 pub mod Table
-pub mod Writing
+pub mod inner

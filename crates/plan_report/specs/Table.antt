@@ -1,7 +1,7 @@
 -- The table of a replay as comma-separated values (docs/traffic.md, "The trace").
 use Rattle.std.specs.Prelude.{ℕ, List, [], ◌++◌, Option, Some, None, slice_index_or, codes, flat_map}
 use Rattle.std.specs.Fmt.{decimal}
-use Rattle.cell_build.specs.Naming.{NameTable, place_at}
+use Rattle.named_net.specs.Naming.{NameTable, place_at}
 use Rattle.cell_replay.specs.declared.lines.Line.{Line}
 
 -- the name of the link of a cell

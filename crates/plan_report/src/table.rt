@@ -5,15 +5,15 @@
 ghost use Rattle.std.specs.Prelude.{◌≡◌, ◌<◌, true, length, codes, flat_map, All, IfOk, OnOk};
 ghost use Rattle.std.specs.Io.KnownBytes.{Appends};
 ghost use Rattle.csv.specs.Writing.{text_written};
-ghost use Rattle.cell_build.specs.Naming.{place_at};
+ghost use Rattle.named_net.specs.Naming.{place_at};
 ghost use Rattle.plan_report.specs.Table.{line_text, place_text, trace_text};
-ghost use Rattle.plan_report.specs.Writing.{IsBetween, is_plain};
+ghost use Rattle.plan_report.specs.inner.Writing.{IsBetween, is_plain};
 
-use cell_build::NamedNet;
 use cell_replay::{Line, Trace};
 use csv::Writer;
 use ct_base::Memory;
 use itoa::Buffer;
+use named_net::NamedNet;
 use std::alloc::Global;
 use std::io::Write;
 

@@ -3,7 +3,7 @@ use Rattle.std.proofs.Common.{◌≡◌, ℕ, ◌+◌, ◌-◌, ◌≤◌, List,
 use Rattle.std.proofs.Math.Seq.{take-add}
 use Rattle.std.proofs.lemmas.List.{take_all, length-drop, length-take-le}
 use Rattle.shelf_io.specs.Told.{Files, IfTold, ReadsFrom, bytes_of}
-use Rattle.shelf_io.specs.Front.{IsFrontOf}
+use Rattle.shelf_io.specs.inner.Pieces.{IsFrontOf}
 
 -- the rest of a slice is what lies past the place
 pub rest_is : (bytes : List ℕ) (at : ℕ) → take (length bytes - at) (drop at bytes) ≡ drop at bytes

@@ -13,7 +13,8 @@ use Rattle.std.proofs.lemmas.Slice.Eq.{bytes_eq-Decides}
 use Rattle.std.proofs.lemmas.Bool.Decides.{nat_tests}
 use Rattle.std.proofs.lemmas.List.Quantifiers.{position-Some}
 use Rattle.shelf_io.specs.Told.{Files}
-use Rattle.shelf_io.specs.FileList.{is_named, bytes_named, files_of}
+use Rattle.shelf_io.specs.FileList.{files_of}
+use Rattle.shelf_io.specs.inner.NamedFile.{is_named, bytes_named}
 use Rattle.shelf_io.specs.declared.file_map.File.{File}
 
 -- what the map has at a name once one more file is put into it

@@ -25,10 +25,11 @@ pub record SinkInMemory : Type 0 where
   pub most : ℕ
   pub faults : ℕ
 
--- what they are as a shelf and as a sink: they tell their content
+-- what it is as a shelf: it tells its content
 abbrev pub state_of : ShelfInMemory → ShelfState
 state_of shelf = record { files = Some shelf.files; read_faults = shelf.read_faults; write_faults = shelf.write_faults }
 
+-- what it is as a sink: it tells its content
 abbrev pub sink_state_of : SinkInMemory → SinkState
 sink_state_of sink = record { taken = Some sink.taken; faults = sink.faults }
 

@@ -6,3 +6,4 @@ pub mod Front
 pub mod InMemory
 pub mod Messages
 pub mod Watching
+pub mod inner

@@ -2,7 +2,8 @@
 
 ghost use Rattle.std.specs.Prelude.{◌≡◌, ◌++◌, [], None, IsSome, MatchOption, OnOk, OnErr, position, unwrap_or};
 ghost use Rattle.std.specs.FinMap as map;
-ghost use Rattle.shelf_io.specs.FileList.{is_named, files_of};
+ghost use Rattle.shelf_io.specs.FileList.{files_of};
+ghost use Rattle.shelf_io.specs.inner.NamedFile.{is_named};
 
 use listed::{Duplicate, Listed, Memory, Text};
 use std::alloc::Global;

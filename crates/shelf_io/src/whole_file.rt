@@ -2,7 +2,8 @@
 
 ghost use Rattle.std.specs.Prelude.{◌≡◌, ◌+◌, ◌<◌, ◌≤◌, length, take, IfOk, IfErr, OnOk, Some};
 ghost use Rattle.shelf_io.specs.Told.{IfTold};
-ghost use Rattle.shelf_io.specs.Front.{EndsPiece, EndsReading, IsFrontOf};
+ghost use Rattle.shelf_io.specs.Front.{EndsReading};
+ghost use Rattle.shelf_io.specs.inner.Pieces.{EndsPiece, IsFrontOf};
 ghost use Rattle.shelf_io.specs.Messages.{message_of};
 ghost use Rattle.shelf_io.specs.declared.whole_file.ReadAll.TheVariants.{Fault, Memory};
 

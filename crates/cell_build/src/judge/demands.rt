@@ -1,11 +1,12 @@
-//! The demand of links: summed step by step where it is in range.
+//! The rule `demand`: the demand of each link is summed step by step, where it is in range.
 
-ghost use Rattle.std.specs.Prelude.{◌≡◌, ◌≤◌, length, map, All, IfOk};
-ghost use Rattle.cell_build.specs.Built.{Judged};
-ghost use Rattle.cell_build.specs.Queues.{demands_of, fault_of, queue_demand};
-ghost use Rattle.cell_build.specs.Refusals.{demand_at, per_link};
+ghost use Rattle.std.specs.Prelude.{◌≡◌, ◌≤◌, length, map, All};
+ghost use Rattle.cell_build.specs.inner.Queues.{demands_of, fault_of, queue_demand};
+ghost use Rattle.cell_build.specs.Refusals.{demand, demand_at};
 ghost use Rattle.cell_build.specs.declared.fault.BuildFault.TheVariants.{Demand as DemandOf};
 ghost use Rattle.demand.specs.Spread.{faults_of as demand_faults, rates_of};
+ghost use Rattle.refusals.specs.Faults.{unless};
+ghost use Rattle.refusals.specs.Memory.{OrMemory};
 ghost use Rattle.network_file.specs.Range.{IsLinkInRange, IsPieceInRange};
 
 use crate::fault::BuildFault;
@@ -15,8 +16,7 @@ use network_file::RawLink;
 use std::alloc::Global;
 
 /// The demand of the queue of each link, none where the link has no piece, or the first fault.
-#[tactic(auto, using(crate::proofs::Judgements::places))]
-pub(super) fn demands(
+pub(super) fn demand(
     alloc: Global,
     links: &[RawLink],
     steps: u32,
@@ -24,8 +24,7 @@ pub(super) fn demands(
     requires few { length links.now ≤ 64 }
     requires in_range { All IsLinkInRange links.now }
     requires horizon { steps ≤ 240 }
-    ensures judged { Judged result (per_link links.now (demand_at steps)) }
-    ensures value { IfOk result (λ demands. demands ≡ demands_of steps links.now) }
+    ensures { OrMemory BuildFault.Memory (unless (demand steps links.now) (demands_of steps links.now)) result }
 {
     let mut demands = Listed::new(alloc);
     for (k, link) in links.iter().enumerate() {
@@ -34,26 +33,39 @@ pub(super) fn demands(
     Ok(demands)
 }
 
-/// The demand of the link's queue. A link without a piece has none, and costs no look at the steps.
+/// The demand of the link's queue.
 fn demand_at(alloc: Global, k: u32, link: &RawLink, steps: u32) -> Result<Option<Units>, BuildFault>
     requires in_range { IsLinkInRange link.now }
     requires horizon { steps ≤ 240 }
-    ensures judged { Judged result (demand_at steps k link.now) }
-    ensures value { IfOk result (λ demand. demand ≡ queue_demand steps link.now.pieces) }
+    ensures { OrMemory BuildFault.Memory (unless (demand_at steps k link.now) (queue_demand steps link.now.pieces)) result }
 {
-    match link.pieces.as_slice() {
+    demand_of(alloc, k, link.pieces.as_slice(), steps)
+}
+
+/// The demand of these pieces. Where there is none, there is no look at the steps.
+fn demand_of(
+    alloc: Global,
+    k: u32,
+    pieces: &[Piece],
+    steps: u32,
+) -> Result<Option<Units>, BuildFault>
+    requires few { length pieces.now ≤ 480 }
+    requires in_range { All IsPieceInRange pieces.now }
+    requires horizon { steps ≤ 240 }
+    ensures { OrMemory BuildFault.Memory (unless (map (DemandOf k) (demand_faults pieces.now steps)) (queue_demand steps pieces.now)) result }
+{
+    match pieces {
         [] => Ok(None),
-        pieces => Ok(Some(demand_of(alloc, k, pieces, steps)?)),
+        _ => Ok(Some(sum_of(alloc, k, pieces, steps)?)),
     }
 }
 
 /// The sum of the pieces in each step.
-fn demand_of(alloc: Global, k: u32, pieces: &[Piece], steps: u32) -> Result<Units, BuildFault>
+fn sum_of(alloc: Global, k: u32, pieces: &[Piece], steps: u32) -> Result<Units, BuildFault>
     requires few { length pieces.now ≤ 480 }
     requires in_range { All IsPieceInRange pieces.now }
     requires horizon { steps ≤ 240 }
-    ensures judged { Judged result (map (DemandOf k) (demand_faults pieces.now steps)) }
-    ensures value { IfOk result (λ demand. demand ≡ rates_of pieces.now steps) }
+    ensures { OrMemory BuildFault.Memory (unless (map (DemandOf k) (demand_faults pieces.now steps)) (rates_of pieces.now steps)) result }
 {
     match spread(alloc, pieces, steps) {
         Ok(demand) => Ok(demand),

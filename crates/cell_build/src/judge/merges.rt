@@ -1,35 +1,36 @@
-//! Links that are led into: none with demand of its own, and where several lead in, apart by greens of one signal.
+//! The rules `fed` and `openmerge`: a link that is led into has no demand of its own, and where several lead in, they are
+//! apart by greens of one signal.
 
 ghost use Rattle.std.specs.Prelude.{◌≡◌, ◌≢◌, ◌<◌, ◌≤◌, not, length, map, None, All};
 ghost use Rattle.std.specs.List.{list_all};
-ghost use Rattle.cell_build.specs.Built.{Judged};
 ghost use Rattle.cell_build.specs.Link.{gate_of};
-ghost use Rattle.cell_build.specs.Refusals.{fed_queue_at, open_merge_at, are_apart, feeders, is_apart, is_empty, per_link};
+ghost use Rattle.cell_build.specs.Refusals.{are_apart, fed, fed_at, feeders, is_apart, is_empty, open_merge, open_merge_at};
+ghost use Rattle.refusals.specs.Faults.{unless};
 ghost use Rattle.network_file.specs.Range.{IsSignalInRange};
 
+use crate::by_name::Signals;
 use crate::fault::BuildFault;
 use crate::gate::gate_of;
 use crate::judge::outs::leads_to;
 use crate::judge::refusal::refuse_where;
-use crate::numbered::Signals;
 use ct_base::Gate;
 use network_file::RawLink;
 
 /// No link with demand is led into.
-#[tactic(auto, using(crate::proofs::Judgements::places))]
-pub(super) fn fed_queues(links: &[RawLink]) -> Result<(), BuildFault>
+#[tactic(auto, unfolding(crate::specs::Refusals::fed))]
+pub(super) fn fed(links: &[RawLink]) -> Result<(), BuildFault>
     requires few { length links.now ≤ 64 }
-    ensures { Judged result (per_link links.now (fed_queue_at links.now)) }
+    ensures { result ≡ unless (fed links.now) tt }
 {
     for (k, link) in links.iter().enumerate() {
-        fed_queue_at(links, k as u32, link)?;
+        fed_at(links, k as u32, link)?;
     }
     Ok(())
 }
 
 /// The link has no demand, or is not led into.
-fn fed_queue_at(links: &[RawLink], k: u32, link: &RawLink) -> Result<(), BuildFault>
-    ensures { Judged result (fed_queue_at links.now k link.now) }
+fn fed_at(links: &[RawLink], k: u32, link: &RawLink) -> Result<(), BuildFault>
+    ensures { result ≡ unless (fed_at links.now k link.now) tt }
 {
     refuse_where(
         !link.pieces.as_slice().is_empty() && is_led_into(links, link.name.as_str()),
@@ -46,13 +47,13 @@ fn is_led_into(links: &[RawLink], name: &str) -> bool
 }
 
 /// The links that lead into one are apart.
-#[tactic(auto, using(crate::proofs::Judgements::places))]
-pub(super) fn open_merges(signals: &Signals<'_>, links: &[RawLink]) -> Result<(), BuildFault>
+#[tactic(auto, unfolding(crate::specs::Refusals::open_merge))]
+pub(super) fn open_merge(signals: &Signals<'_>, links: &[RawLink]) -> Result<(), BuildFault>
     requires few { length links.now ≤ 64 }
     requires few_signals { length signals.now ≤ 16 }
     requires in_range { All IsSignalInRange signals.now }
     requires known { All (λ link. link.signal ≢ None → 0 < length signals.now) links.now }
-    ensures { Judged result (per_link links.now (open_merge_at signals.now links.now)) }
+    ensures { result ≡ unless (open_merge signals.now links.now) tt }
 {
     for (k, link) in links.iter().enumerate() {
         open_merge_at(signals, links, k as u32, link)?;
@@ -70,7 +71,7 @@ fn open_merge_at(
     requires few_signals { length signals.now ≤ 16 }
     requires in_range { All IsSignalInRange signals.now }
     requires known { All (λ link. link.signal ≢ None → 0 < length signals.now) links.now }
-    ensures { Judged result (open_merge_at signals.now links.now k link.now) }
+    ensures { result ≡ unless (open_merge_at signals.now links.now k link.now) tt }
 {
     refuse_where(
         !are_apart(signals, links, link.name.as_str()),

@@ -1,12 +1,11 @@
-//! Where links lead: not in two ways at once, not to themselves, not twice to one.
+//! The rules `outboth`, `itself` and `twiceturn`: a link does not lead in two ways at once, to itself, or twice to one.
 
-ghost use Rattle.std.specs.Prelude.{◌≡◌, ◌≤◌, [], length, map, take, All};
+ghost use Rattle.std.specs.Prelude.{◌≡◌, ◌≤◌, length, map, take, All};
 ghost use Rattle.std.specs.List.{list_any};
 ghost use Rattle.std.specs.Str.{bytes_eq};
-ghost use Rattle.cell_build.specs.Built.{Judged};
 ghost use Rattle.cell_build.specs.Names.{name_in};
-ghost use Rattle.cell_build.specs.Refusals.{both_outs_at, loop_at, twice_turn_at, twice_turns_at, leads_to, per_link};
-ghost use Rattle.refusals.specs.Faults.{per_item};
+ghost use Rattle.cell_build.specs.Refusals.{itself, itself_at, leads_to, out_both, out_both_at, twice_turn, twice_turn_at, twice_turn_in};
+ghost use Rattle.refusals.specs.Faults.{per_item, unless};
 ghost use Rattle.network_file.specs.Range.{IsLinkInRange};
 
 use crate::fault::BuildFault;
@@ -14,20 +13,20 @@ use crate::judge::refusal::refuse_where;
 use network_file::{Name, RawLink};
 
 /// No link has both `to` and `turns`.
-#[tactic(auto, using(crate::proofs::Judgements::places))]
-pub(super) fn both_outs(links: &[RawLink]) -> Result<(), BuildFault>
+#[tactic(auto, unfolding(crate::specs::Refusals::out_both))]
+pub(super) fn out_both(links: &[RawLink]) -> Result<(), BuildFault>
     requires few { length links.now ≤ 64 }
-    ensures { Judged result (per_link links.now both_outs_at) }
+    ensures { result ≡ unless (out_both links.now) tt }
 {
     for (k, link) in links.iter().enumerate() {
-        both_outs_at(k as u32, link)?;
+        out_both_at(k as u32, link)?;
     }
     Ok(())
 }
 
 /// The link has not both `to` and `turns`.
-fn both_outs_at(k: u32, link: &RawLink) -> Result<(), BuildFault>
-    ensures { Judged result (both_outs_at k link.now) }
+fn out_both_at(k: u32, link: &RawLink) -> Result<(), BuildFault>
+    ensures { result ≡ unless (out_both_at k link.now) tt }
 {
     refuse_where(
         link.to.is_some() && !link.turns.as_slice().is_empty(),
@@ -36,20 +35,20 @@ fn both_outs_at(k: u32, link: &RawLink) -> Result<(), BuildFault>
 }
 
 /// No link leads to itself.
-#[tactic(auto, using(crate::proofs::Judgements::places))]
-pub(super) fn loops(links: &[RawLink]) -> Result<(), BuildFault>
+#[tactic(auto, unfolding(crate::specs::Refusals::itself))]
+pub(super) fn itself(links: &[RawLink]) -> Result<(), BuildFault>
     requires few { length links.now ≤ 64 }
-    ensures { Judged result (per_link links.now loop_at) }
+    ensures { result ≡ unless (itself links.now) tt }
 {
     for (k, link) in links.iter().enumerate() {
-        loop_at(k as u32, link)?;
+        itself_at(k as u32, link)?;
     }
     Ok(())
 }
 
 /// The link does not lead to itself.
-fn loop_at(k: u32, link: &RawLink) -> Result<(), BuildFault>
-    ensures { Judged result (loop_at k link.now) }
+fn itself_at(k: u32, link: &RawLink) -> Result<(), BuildFault>
+    ensures { result ≡ unless (itself_at k link.now) tt }
 {
     refuse_where(
         leads_to(link, link.name.as_str()),
@@ -84,40 +83,39 @@ fn is_among(turns: &[(Name, u32)], name: &str) -> bool
 }
 
 /// No branch leads where an earlier one of its link does.
-#[tactic(auto, using(crate::proofs::Judgements::places))]
-pub(super) fn twice_turns(links: &[RawLink]) -> Result<(), BuildFault>
+#[tactic(auto, unfolding(crate::specs::Refusals::twice_turn))]
+pub(super) fn twice_turn(links: &[RawLink]) -> Result<(), BuildFault>
     requires few { length links.now ≤ 64 }
     requires in_range { All IsLinkInRange links.now }
-    ensures { Judged result (per_link links.now twice_turns_at) }
+    ensures { result ≡ unless (twice_turn links.now) tt }
 {
     for (k, link) in links.iter().enumerate() {
-        twice_turns_at(k as u32, link)?;
+        twice_turn_at(k as u32, link)?;
     }
     Ok(())
 }
 
 /// No branch of the link leads where an earlier one does.
-fn twice_turns_at(k: u32, link: &RawLink) -> Result<(), BuildFault>
+fn twice_turn_at(k: u32, link: &RawLink) -> Result<(), BuildFault>
     requires in_range { IsLinkInRange link.now }
-    ensures { Judged result (twice_turns_at k link.now) }
+    ensures { result ≡ unless (twice_turn_at k link.now) tt }
 {
-    twice_turns_of(k, link.turns.as_slice())
+    twice_turn_of(k, link.turns.as_slice())
 }
 
 /// No branch leads where an earlier one does.
-#[tactic(auto, using(crate::proofs::Judgements::places))]
-fn twice_turns_of(k: u32, turns: &[(Name, u32)]) -> Result<(), BuildFault>
+fn twice_turn_of(k: u32, turns: &[(Name, u32)]) -> Result<(), BuildFault>
     requires few { length turns.now ≤ 4 }
-    ensures { Judged result (per_item ([], 0) turns.now (twice_turn_at turns.now k)) }
+    ensures { result ≡ unless (per_item turns.now (twice_turn_in turns.now k)) tt }
 {
     for (j, turn) in turns.iter().enumerate() {
-        twice_turn_at(turns, k, j, turn)?;
+        twice_turn_in(turns, k, j, turn)?;
     }
     Ok(())
 }
 
 /// The branch does not lead where an earlier one does.
-fn twice_turn_at(
+fn twice_turn_in(
     turns: &[(Name, u32)],
     k: u32,
     j: usize,
@@ -125,7 +123,7 @@ fn twice_turn_at(
 ) -> Result<(), BuildFault>
     requires few { length turns.now ≤ 4 }
     requires within { j ≤ length turns.now }
-    ensures { Judged result (twice_turn_at turns.now k j turn.now) }
+    ensures { result ≡ unless (twice_turn_in turns.now k j turn.now) tt }
 {
     refuse_where(
         is_among(&turns[..j], turn.0.as_str()),

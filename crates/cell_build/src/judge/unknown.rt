@@ -1,44 +1,42 @@
-//! Names that stand for nothing: links that are led to, and signals of links.
+//! The rules `unknownlink` and `unknownsignal`: the links that are led to are there, and the signals of links.
 
-ghost use Rattle.std.specs.Prelude.{◌≤◌, [], length, All};
-ghost use Rattle.cell_build.specs.Built.{Judged};
+ghost use Rattle.std.specs.Prelude.{◌≡◌, ◌≤◌, length, All};
 ghost use Rattle.cell_build.specs.Names.{link_names, signal_names};
-ghost use Rattle.refusals.specs.Faults.{per_item};
-ghost use Rattle.cell_build.specs.Refusals.{unknown_links_at, unknown_signal_at, unknown_turn_at, per_link, unknown_to};
+ghost use Rattle.refusals.specs.Faults.{per_item, unless};
+ghost use Rattle.cell_build.specs.Refusals.{unknown_link, unknown_link_at, unknown_signal, unknown_signal_at, unknown_to, unknown_turn_at};
 ghost use Rattle.network_file.specs.Range.{IsLinkInRange};
 
+use crate::by_name::{Links, Signals};
 use crate::fault::BuildFault;
 use crate::judge::refusal::refuse_where;
-use crate::numbered::{Links, Signals};
 use network_file::{Name, RawLink};
 
 /// Each link leads to links that are there.
-pub(super) fn unknown_links(links: &Links<'_>) -> Result<(), BuildFault>
+#[tactic(auto, unfolding(crate::specs::Refusals::unknown_link))]
+pub(super) fn unknown_link(links: &Links<'_>) -> Result<(), BuildFault>
     requires few { length links.now ≤ 64 }
     requires in_range { All IsLinkInRange links.now }
-    ensures { Judged result (per_link links.now (unknown_links_at (link_names links.now))) }
+    ensures { result ≡ unless (unknown_link links.now) tt }
 {
-    unknown_links_of(links, links.as_slice())
+    unknown_link_in(links, links.as_slice())
 }
 
 /// Each of the links leads to links that are there.
-#[tactic(auto, using(crate::proofs::Judgements::places))]
-fn unknown_links_of(all: &Links<'_>, links: &[RawLink]) -> Result<(), BuildFault>
+fn unknown_link_in(all: &Links<'_>, links: &[RawLink]) -> Result<(), BuildFault>
     requires few { length links.now ≤ 64 }
     requires in_range { All IsLinkInRange links.now }
-    ensures { Judged result (per_link links.now (unknown_links_at (link_names all.now))) }
+    ensures { result ≡ unless (per_item links.now (unknown_link_at (link_names all.now))) tt }
 {
     for (k, link) in links.iter().enumerate() {
-        unknown_links_at(all, k as u32, link)?;
+        unknown_link_at(all, k as u32, link)?;
     }
     Ok(())
 }
 
 /// The link leads to links that are there.
-#[tactic(auto, using(crate::proofs::Judgements::joined))]
-fn unknown_links_at(links: &Links<'_>, k: u32, link: &RawLink) -> Result<(), BuildFault>
+fn unknown_link_at(links: &Links<'_>, k: u32, link: &RawLink) -> Result<(), BuildFault>
     requires in_range { IsLinkInRange link.now }
-    ensures { Judged result (unknown_links_at (link_names links.now) k link.now) }
+    ensures { result ≡ unless (unknown_link_at (link_names links.now) k link.now) tt }
 {
     unknown_to(links, k, &link.to)?;
     unknown_turns(links, k, link.turns.as_slice())
@@ -46,7 +44,7 @@ fn unknown_links_at(links: &Links<'_>, k: u32, link: &RawLink) -> Result<(), Bui
 
 /// The link of `to` is there.
 fn unknown_to(links: &Links<'_>, k: u32, to: &Option<Name>) -> Result<(), BuildFault>
-    ensures { Judged result (unknown_to (link_names links.now) k to.now) }
+    ensures { result ≡ unless (unknown_to (link_names links.now) k to.now) tt }
 {
     match to {
         Some(name) => refuse_where(
@@ -58,10 +56,9 @@ fn unknown_to(links: &Links<'_>, k: u32, to: &Option<Name>) -> Result<(), BuildF
 }
 
 /// The link of each branch is there.
-#[tactic(auto, using(crate::proofs::Judgements::places))]
 fn unknown_turns(links: &Links<'_>, k: u32, turns: &[(Name, u32)]) -> Result<(), BuildFault>
     requires few { length turns.now ≤ 4 }
-    ensures { Judged result (per_item ([], 0) turns.now (unknown_turn_at (link_names links.now) k)) }
+    ensures { result ≡ unless (per_item turns.now (unknown_turn_at (link_names links.now) k)) tt }
 {
     for (j, turn) in turns.iter().enumerate() {
         unknown_turn_at(links, k, j as u32, turn)?;
@@ -72,7 +69,7 @@ fn unknown_turns(links: &Links<'_>, k: u32, turns: &[(Name, u32)]) -> Result<(),
 /// The link of a branch is there.
 fn unknown_turn_at(links: &Links<'_>, k: u32, j: u32, turn: &(Name, u32)) -> Result<(), BuildFault>
     requires few { j ≤ 4 }
-    ensures { Judged result (unknown_turn_at (link_names links.now) k j turn.now) }
+    ensures { result ≡ unless (unknown_turn_at (link_names links.now) k j turn.now) tt }
 {
     refuse_where(
         links.place_of(turn.0.as_str()).is_none(),
@@ -84,10 +81,10 @@ fn unknown_turn_at(links: &Links<'_>, k: u32, j: u32, turn: &(Name, u32)) -> Res
 }
 
 /// Each link names a signal that is there, or none.
-#[tactic(auto, using(crate::proofs::Judgements::places))]
-pub(super) fn unknown_signals(signals: &Signals<'_>, links: &[RawLink]) -> Result<(), BuildFault>
+#[tactic(auto, unfolding(crate::specs::Refusals::unknown_signal))]
+pub(super) fn unknown_signal(signals: &Signals<'_>, links: &[RawLink]) -> Result<(), BuildFault>
     requires few { length links.now ≤ 64 }
-    ensures { Judged result (per_link links.now (unknown_signal_at (signal_names signals.now))) }
+    ensures { result ≡ unless (unknown_signal signals.now links.now) tt }
 {
     for (k, link) in links.iter().enumerate() {
         unknown_signal_at(signals, k as u32, link)?;
@@ -97,7 +94,7 @@ pub(super) fn unknown_signals(signals: &Signals<'_>, links: &[RawLink]) -> Resul
 
 /// The link names a signal that is there, or none.
 fn unknown_signal_at(signals: &Signals<'_>, k: u32, link: &RawLink) -> Result<(), BuildFault>
-    ensures { Judged result (unknown_signal_at (signal_names signals.now) k link.now) }
+    ensures { result ≡ unless (unknown_signal_at (signal_names signals.now) k link.now) tt }
 {
     match &link.signal {
         Some(name) => refuse_where(

@@ -1,10 +1,7 @@
 //! The plain types, each filled, copied and read once.
 
 use super::given::list_of;
-use crate::{
-    Cell, Col, Duplicate, Gate, Kind, Letter, Linear, Listed, Memory, Net, Out, Phase, Plan, Row,
-    Signal, Terms,
-};
+use crate::{Cell, Duplicate, Gate, Kind, Letter, Listed, Memory, Net, Out, Phase, Plan, Signal};
 use std::alloc::Global;
 use std::process::Abort;
 
@@ -78,38 +75,5 @@ pub fn try_plans(rt: &impl Abort, alloc: Global) -> Result<(), Memory> {
     for word in plan.words.as_slice() {
         assert_eq!(rt; word.as_slice(), letters.as_slice());
     }
-    Ok(())
-}
-
-/// The parts of a program are copied with all their terms.
-pub fn try_programs(rt: &impl Abort, alloc: Global) -> Result<(), Memory> {
-    let col = Col {
-        low: -1,
-        high: 5,
-        cost: 2,
-    };
-    assert_eq!(rt; col.copy()?, col);
-
-    let mut terms = Terms::new(alloc);
-    for term in [(0u32, 1i64), (2, -3), (4, 5), (6, -7), (8, 9)] {
-        terms.push(term)?;
-    }
-    let wanted = [(0u32, 1i64), (2, -3), (4, 5), (6, -7), (8, 9)];
-    assert_eq!(rt; terms.as_slice(), wanted.as_slice());
-    let row = Row {
-        equal: true,
-        rhs: -4,
-        terms: terms.copy()?,
-    };
-    let row = row.copy()?;
-    assert_eq!(rt; (row.equal, row.rhs), (true, -4i64));
-    assert_eq!(rt; row.terms.as_slice(), wanted.as_slice());
-    let linear = Linear {
-        constant: 12,
-        terms,
-    };
-    let linear = linear.copy()?;
-    assert_eq!(rt; linear.constant, 12);
-    assert_eq!(rt; linear.terms.as_slice(), wanted.as_slice());
     Ok(())
 }

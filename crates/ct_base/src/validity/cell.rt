@@ -6,9 +6,9 @@ ghost use Rattle.ct_base.specs.Validity.{IsBetween, IsCell, IsGate, IsOfKind, Is
 use super::moves::{are_targets, is_split};
 use super::signal::is_set_of_phases;
 use crate::cell::{Cell, Gate, Kind, Out};
-use crate::limits::{MAX_CAPACITY, MAX_DEMAND, MAX_STORAGE, MAX_WAVE};
 use crate::net::Net;
 use crate::signal::Signal;
+use limits::{MAX_CAPACITY, MAX_DEMAND, MAX_STORAGE, MAX_WAVE};
 
 /// Whether a cell obeys the rules of the place with its number in a network.
 pub fn is_cell(net: &Net, number: usize, cell: &Cell) -> bool

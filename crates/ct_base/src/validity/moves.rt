@@ -5,7 +5,7 @@ ghost use Rattle.ct_base.specs.Access.{targets};
 ghost use Rattle.ct_base.specs.Validity.{IsBetween, IsTarget, IsSplit};
 
 use crate::cell::{Cell, Kind, Out};
-use crate::limits::{MAX_BRANCHES, MAX_PARCEL};
+use limits::{MAX_BRANCHES, MAX_PARCEL};
 
 /// Whether a move out of a cell leads into road cells other than that one, or out of the network.
 pub fn are_targets(cells: &[Cell], from: usize, out: &Out) -> bool

@@ -4,8 +4,8 @@ ghost use Rattle.std.specs.Prelude.{◌≡◌, ◌<◌, ◌≤◌, ◌^◌, ◌�
 ghost use Rattle.ct_base.specs.Access.{no_phase};
 ghost use Rattle.ct_base.specs.Validity.{IsPhase, IsSignal};
 
-use crate::limits::{MAX_CLEAR, MAX_GREEN, MAX_PHASES};
 use crate::signal::{Phase, Signal};
+use limits::{MAX_CLEAR, MAX_GREEN, MAX_PHASES};
 
 /// Whether a signal obeys its rules: 2 to 8 phases, the first run's among them, and each by its own rules.
 pub fn is_signal(signal: &Signal) -> bool

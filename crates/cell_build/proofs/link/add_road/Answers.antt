@@ -1,6 +1,6 @@
 -- One road cell more, and the last one.
 use Rattle.std.proofs.Common.{◌≡◌, ◌+◌, ◌-◌, ◌++◌, length, ◌∙◌, refl, arith}
-use Rattle.ct_base.specs.Tables.{table_of}
+use Rattle.listed.specs.Below.{table_of}
 use Rattle.cell_build.specs.Link.{initial_at, road_of}
 use Rattle.cell_build.proofs.LinkCells.{road_of-inner, road_of-last}
 use Rattle.cell_build.proofs.TableSteps.{behind_none, behind_more}

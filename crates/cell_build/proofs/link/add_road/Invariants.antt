@@ -1,6 +1,6 @@
 -- The road cells that were reached stand behind the cells before the link.
 use Rattle.std.proofs.Common.{◌≡◌, ◌++◌, length}
-use Rattle.ct_base.specs.Tables.{table_of}
+use Rattle.listed.specs.Below.{table_of}
 use Rattle.cell_build.specs.Link.{road_of}
 use Rattle.cell_build.proofs.link.add_road.Given as goal
 

@@ -1,6 +1,6 @@
 -- The places that were reached stand behind those before the link.
 use Rattle.std.proofs.Common.{◌≡◌, ◌++◌, Some}
-use Rattle.ct_base.specs.Tables.{table_of}
+use Rattle.listed.specs.Below.{table_of}
 use Rattle.cell_build.proofs.naming.add_road_places.Given as goal
 
 abbrev pub invariant-loop-road : goal.invariant-loop-road

@@ -1,23 +1,23 @@
 use Rattle.std.proofs.Common.{◌≡◌, ◌++◌, ◌∙◌, ap, sym, refl, arith}
-use Rattle.refusals.specs.Faults.{join_below}
-use Rattle.refusals.proofs.JoinLaws.{join_below-suc, join_below-zero}
-use Rattle.cell_build.specs.Names.{link_of, no_link}
+use Rattle.listed.specs.Below.{join_below}
+use Rattle.listed.proofs.JoinLaws.{join_below-suc, join_below-zero}
+use Rattle.cell_build.specs.Names.{raw_link, no_link}
 use Rattle.cell_build.specs.Naming.{places_of, places_of_link}
 use Rattle.cell_build.proofs.TableSteps.{item_at}
 use Rattle.cell_build.proofs.naming.places_of.Goals as goal
 
 pub loop-k-init : goal.loop-k-init
-loop-k-init c = c.of-places.ensures ∙ c.in_ok-with_capacity.ensures.items ∙ sym (join_below-zero (λ k. places_of_link k (link_of c.args.links.now k)))
+loop-k-init c = c.of-places.ensures ∙ c.in_ok-with_capacity.ensures.items ∙ sym (join_below-zero (λ k. places_of_link k (raw_link c.args.links.now k)))
 
 pub loop-k-preserved : goal.loop-k-preserved
 loop-k-preserved c =
     let k = c.loop-k.k in
-    let link : c.index-links-k.result ≡ link_of c.args.links.now k =
+    let link : c.index-links-k.result ≡ raw_link c.args.links.now k =
     item_at c.args.links.now c.args.links.now k c.index-links-k.result no_link refl (omega arith) c.index-links-k.is in
     c.in_ok-add_places.ensures ∙ ap (λ places. places ++ places_of_link k c.index-links-k.result) c.loop-k.invariant
-    ∙ ap (λ link. join_below k (λ k. places_of_link k (link_of c.args.links.now k)) ++ places_of_link k link) link
-    ∙ sym (join_below-suc k (λ k. places_of_link k (link_of c.args.links.now k)))
+    ∙ ap (λ link. join_below k (λ k. places_of_link k (raw_link c.args.links.now k)) ++ places_of_link k link) link
+    ∙ sym (join_below-suc k (λ k. places_of_link k (raw_link c.args.links.now k)))
 
 pub returns : goal.returns
 unfolding places_of
-returns c = let end : c.loop-k.k ≡ _ = omega arith in c.loop-k.invariant ∙ ap (λ n. join_below n (λ k. places_of_link k (link_of c.args.links.now k))) end
+returns c = let end : c.loop-k.k ≡ _ = omega arith in c.loop-k.invariant ∙ ap (λ n. join_below n (λ k. places_of_link k (raw_link c.args.links.now k))) end

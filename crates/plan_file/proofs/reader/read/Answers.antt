@@ -1,5 +1,5 @@
 -- The first line decides whether the lines behind it are read.
-use Rattle.std.proofs.Common.{sym}
+use Rattle.std.proofs.Common.{inl, sym}
 use Rattle.plan_file.proofs.ReadLaws.{another_first_line, behind_head_given, no_first_line, read_is_admissible}
 use Rattle.plan_file.proofs.reader.read.Goals as goal
 use Rattle.plan_file.proofs.reader.read.Goals.{in_default-via-in-Some+else-eq, in_default-via-in_default}
@@ -16,6 +16,6 @@ returns-in-Some-clause-admissible c =
 pub returns-in_default-clause-value : goal.returns-in_default-clause-value
 returns-in_default-clause-value c =
     elim c.in_default.branch [
-      | in_default-via-in-Some+else-eq w ↦ another_first_line c.args.named.now c.args.text.now w.in-Some.line.now w.in-Some.behind.now c.names-names.ensures.fits w.in-Some.ensures (sym w.if-eq.ensures)
-      | in_default-via-in_default w ↦ no_first_line c.args.named.now c.args.text.now c.names-names.ensures.fits w.in_default.ensures
+      | in_default-via-in-Some+else-eq w ↦ inl (sym (another_first_line c.args.named.now c.args.text.now w.in-Some.line.now w.in-Some.behind.now c.names-names.ensures.fits w.in-Some.ensures (sym w.if-eq.ensures)))
+      | in_default-via-in_default w ↦ inl (sym (no_first_line c.args.named.now c.args.text.now c.names-names.ensures.fits w.in_default.ensures))
     ]

@@ -3,7 +3,7 @@ use Rattle.std.proofs.Common.{◌≡◌, ◌++◌, ap, ◌∙◌}
 use Rattle.std.specs.Prelude.{codes, string_bytes}
 use Rattle.ct_base.specs.Access.{signal_of}
 use Rattle.ct_base.specs.declared.net.Net.{Net}
-use Rattle.cell_build.specs.Naming.{NameTable, signal_names_at}
+use Rattle.named_net.specs.Naming.{NameTable, signal_names_at}
 use Rattle.plan_file.proofs.WriteLaws.{block_is_added, runs_have_phases}
 use Rattle.plan_file.proofs.writer.push_block.Goals as goal
 

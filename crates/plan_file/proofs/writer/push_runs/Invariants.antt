@@ -2,7 +2,7 @@
 use Rattle.std.proofs.Common.{◌≡◌, ◌++◌, map, take}
 use Rattle.std.specs.Prelude.{flat_map, string_bytes}
 use Rattle.phase_rules.specs.Expansion.{run_by}
-use Rattle.cell_build.specs.Naming.{signal_names_at}
+use Rattle.named_net.specs.Naming.{signal_names_at}
 use Rattle.plan_file.specs.PlanText.{run_text}
 use Rattle.plan_file.proofs.writer.push_runs.Given as goal
 

@@ -1,7 +1,7 @@
 -- The blocks of the signals so far are added.
 use Rattle.std.proofs.Common.{◌≡◌}
 use Rattle.std.specs.Prelude.{string_bytes}
-use Rattle.plan_file.specs.Writing.{text_below}
+use Rattle.plan_file.specs.inner.Writing.{text_below}
 use Rattle.plan_file.proofs.writer.write.Given as goal
 
 abbrev pub invariant-loop-signal : goal.invariant-loop-signal

@@ -2,7 +2,7 @@
 use Rattle.std.proofs.Common.{◌≡◌, ◌≢◌, ◌∙◌, ap, arith}
 use Rattle.std.specs.Fmt.{decimal}
 use Rattle.csv.specs.declared.writer.QuoteStyle.TheVariants as style
-use Rattle.cell_build.specs.Naming.{NameTable, place_at}
+use Rattle.named_net.specs.Naming.{NameTable, place_at}
 use Rattle.plan_report.specs.Table.{link_text, place_text}
 use Rattle.plan_report.proofs.Rows.{link_plain, row_is_record}
 use Rattle.plan_report.proofs.table.write_line.Goals as goal

@@ -4,7 +4,7 @@ use Rattle.std.specs.Prelude.{flat_map}
 use Rattle.std.specs.Io.KnownBytes.{Appends}
 use Rattle.csv.specs.Writing.{text_written}
 use Rattle.plan_report.specs.Table.{line_text}
-use Rattle.plan_report.specs.Writing.{IsBetween}
+use Rattle.plan_report.specs.inner.Writing.{IsBetween}
 use Rattle.plan_report.proofs.table.write_lines.Given as goal
 
 abbrev pub invariant-loop-line : goal.invariant-loop-line

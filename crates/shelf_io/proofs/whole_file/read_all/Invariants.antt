@@ -1,5 +1,5 @@
 use Rattle.std.proofs.Common.{◌≡◌, ◌+◌, ◌-◌, ◌<◌, ◌≤◌, length}
-use Rattle.shelf_io.specs.Front.{IsFrontOf}
+use Rattle.shelf_io.specs.inner.Pieces.{IsFrontOf}
 use Rattle.shelf_io.proofs.whole_file.read_all.Given as goal
 
 -- what was read so far is the front of the told file, no longer than allowed, and the shelf is as it was

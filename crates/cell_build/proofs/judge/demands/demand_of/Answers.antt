@@ -1,11 +1,15 @@
-use Rattle.cell_build.proofs.DemandLaws.{demand_fine, demand_made, demand_refused}
+use Rattle.std.proofs.Common.{rules, arith, inl}
+use Rattle.refusals.proofs.Memory.{refused_as_well}
+use Rattle.cell_build.proofs.DemandLaws.{no_piece_no_demand, sum_is_demand}
 use Rattle.cell_build.proofs.judge.demands.demand_of.Goals as goal
 
-pub returns-in-Ok-clause-judged : goal.returns-in-Ok-clause-judged
-returns-in-Ok-clause-judged c = demand_fine c.args.k c.args.pieces.now c.args.steps c.in-Ok.demand c.in-Ok.ensures
+pub returns-in-empty : goal.returns-in-empty
+returns-in-empty c = inl (no_piece_no_demand c.args.pieces.now c.args.steps c.args.k (omega arith))
 
-pub returns-in-Ok-clause-value : goal.returns-in-Ok-clause-value
-returns-in-Ok-clause-value c = demand_made c.args.pieces.now c.args.steps c.in-Ok.demand c.in-Ok.ensures
+pub returns-in_err-sum_of-in_default : goal.returns-in_err-sum_of-in_default
+returns-in_err-sum_of-in_default c =
+    refused_as_well _ c.in_err-sum_of-in_default.field-0.0 _ _ _ c.from_residual.result (search rules) c.in_err-sum_of-in_default.ensures
 
-pub returns-in-Err-clause-judged : goal.returns-in-Err-clause-judged
-returns-in-Err-clause-judged c = rw c.fault_of.ensures (demand_refused c.args.k c.args.pieces.now c.args.steps c.in-Err.fault c.in-Err.ensures)
+pub returns-in_ok-sum_of-in_default : goal.returns-in_ok-sum_of-in_default
+returns-in_ok-sum_of-in_default c =
+    sum_is_demand c.args.k c.args.pieces.now c.args.steps c.in_ok-sum_of-in_default.field-0 (omega arith) c.in_ok-sum_of-in_default.ensures

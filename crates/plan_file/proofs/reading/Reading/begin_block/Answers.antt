@@ -1,8 +1,8 @@
 -- The block that begins is that of the next signal.
 use Rattle.std.proofs.Common.{ap, map}
 use Rattle.phase_rules.specs.Expansion.{run_by}
-use Rattle.plan_file.specs.Scan.{closed}
-use Rattle.plan_file.specs.State.{progress_of}
+use Rattle.plan_file.specs.inner.Scan.{closed}
+use Rattle.plan_file.specs.inner.State.{progress_of}
 use Rattle.plan_file.proofs.ReadingLaws.{block_is_begun}
 use Rattle.plan_file.proofs.reading.Reading.begin_block.Goals as goal
 

@@ -1,6 +1,6 @@
 -- What stands behind the end is a line at fault.
 use Rattle.std.proofs.Common.{sym}
-use Rattle.plan_file.specs.State.{progress_of}
+use Rattle.plan_file.specs.inner.State.{progress_of}
 use Rattle.plan_file.proofs.ReadingLaws.{nothing_behind, something_behind}
 use Rattle.plan_file.proofs.reading.Reading.into_plan.Goals as goal
 

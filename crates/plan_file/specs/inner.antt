@@ -1,0 +1,3 @@
+pub mod Scan
+pub mod State
+pub mod Writing
