@@ -1,0 +1,24 @@
+pub mod Products
+pub mod SumLaws
+pub mod SparseLaws
+pub mod FirstLeast
+pub mod Switches
+pub mod MoveRows
+pub mod Segments
+pub mod WordSegments
+pub mod LetterSums
+pub mod RuleLaws
+pub mod PlanFloors
+pub mod PlanBits
+pub mod PlanTerms
+pub mod PlanMoves
+pub mod PlanRows
+pub mod NumberLaws
+pub mod PlaceLaws
+pub mod ColumnLaws
+pub mod BoundLaws
+pub mod ObjectiveLaws
+pub mod RowColumns
+pub mod FlowColumns
+pub mod PointLaws
+mod KnownValues

@@ -1,0 +1,10 @@
+pub mod Rows
+pub mod Columns
+pub mod Numbers
+pub mod Existence
+pub mod Values
+pub mod RuleRows
+pub mod SwitchRows
+pub mod FlowRows
+pub mod Sparse
+pub mod Points

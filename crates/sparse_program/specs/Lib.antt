@@ -1,0 +1,4 @@
+pub mod Terms
+pub mod Program
+pub mod Box
+pub mod inner

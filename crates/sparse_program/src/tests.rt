@@ -1,0 +1,18 @@
+//! The program of a network of one link, built, read by rows and by columns, and its box narrowed and set back.
+
+mod one_link;
+mod parts;
+
+use std::test::Fail;
+
+#[test]
+fn programs_are_built_read_and_narrowed(rt: HostRuntime) -> Result<(), Fail> {
+    let alloc = rt.alloc();
+    parts::try_terms(&rt, alloc)?;
+    parts::try_copies(&rt, alloc)?;
+    let program = one_link::built(&rt, alloc)?;
+    one_link::try_rows(&rt, &program);
+    one_link::try_columns(&rt, &program);
+    one_link::try_bounds(&rt, alloc, &program)?;
+    Ok(())
+}
