@@ -13,7 +13,8 @@ use Rattle.ct_base.specs.declared.cell.Out.{Out}
 use Rattle.ct_base.specs.declared.cell.Out.TheVariants.{Exit, To, Turns}
 use Rattle.ct_base.specs.declared.plan.Letter.{Letter}
 use Rattle.traffic_model.specs.Flow.{is_open, least, receiving, cap_of, further_terms, flow, units_of_flow, outflow}
-use Rattle.cell_replay.specs.Moves.{LeadToRoads, parcels_up_to, sent_by}
+use Rattle.cell_replay.specs.Asked.{LeadToRoads}
+use Rattle.cell_replay.specs.inner.Moves.{parcels_up_to, sent_by}
 
 -- ---- the gate's bit
 

@@ -2,8 +2,8 @@
 use Rattle.std.proofs.Common.{◌≡◌, ℕ, zero, suc, ◌+◌, ◌-◌, List, [], ◌∷◌, ◌++◌, length, slice_index, append_assoc, add-one, refl, ap, ◌∙◌, sym}
 use Rattle.std.specs.Prelude.{sum_by}
 use Rattle.std.proofs.lemmas.List.Sums.{sum_by-append, sum_by_push}
-use Rattle.ct_base.proofs.TableLaws.{slice_index-table_of, table_of-same, table_of-suc}
-use Rattle.ct_base.specs.Tables.{sum_below, table_of}
+use Rattle.listed.proofs.TableLaws.{slice_index-table_of, table_of-same, table_of-suc}
+use Rattle.listed.specs.Below.{sum_below, table_of}
 use Rattle.ct_base.specs.declared.cell.Cell.{Cell}
 use Rattle.ct_base.specs.declared.net.Net.{Net}
 use Rattle.ct_base.specs.declared.plan.Letter.{Letter}
@@ -11,7 +11,7 @@ use Rattle.traffic_model.specs.Delay.{cell_delay, delay_of, step_delay}
 use Rattle.traffic_model.specs.Flow.{outflow}
 use Rattle.traffic_model.specs.Occupancy.{occupancies}
 use Rattle.cell_replay.proofs.Adding.{IsAt}
-use Rattle.cell_replay.specs.Moves.{line_of}
+use Rattle.cell_replay.specs.inner.Moves.{line_of}
 use Rattle.cell_replay.specs.Standing.{Standing, one_step_on}
 use Rattle.cell_replay.specs.Trace.{line_from, lines_at, trace_of}
 use Rattle.cell_replay.specs.declared.lines.Line.{Line}

@@ -3,13 +3,14 @@
 use Rattle.std.proofs.Common.{◌≡◌, ◌≢◌, ℕ, ◌+◌, ◌-◌, ◌*◌, ◌<◌, ◌≤◌, inl, inr, List, length, get_or, set, slice_index, ap, ◌∙◌, sym, arith, get_or-set_same, get_or-set_other, length-set}
 use Rattle.std.proofs.lemmas.Bool.{cases_eq, cases_lt}
 use Rattle.std.proofs.lemmas.List.{get_or_past}
-use Rattle.ct_base.proofs.TableLaws.{sum_below-zero, sum_below-suc, fill}
+use Rattle.listed.proofs.SumLaws.{sum_below-zero, sum_below-suc}
+use Rattle.listed.proofs.TableLaws.{fill}
 use Rattle.ct_base.specs.Access.{cell_of}
-use Rattle.ct_base.specs.Tables.{table_of}
+use Rattle.listed.specs.Below.{table_of}
 use Rattle.ct_base.specs.declared.cell.Cell.{Cell}
 use Rattle.ct_base.specs.declared.cell.Out.{Out}
 use Rattle.traffic_model.specs.Occupancy.{demand_at}
-use Rattle.cell_replay.specs.Moves.{entered, held_after, passed}
+use Rattle.cell_replay.specs.inner.Moves.{entered, held_after, passed}
 use Rattle.cell_replay.proofs.Spreading.{passed-le}
 
 -- the first k cells have sent, and the others wait

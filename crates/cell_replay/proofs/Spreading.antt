@@ -9,7 +9,7 @@ use Rattle.ct_base.specs.Access.{parcel}
 use Rattle.ct_base.specs.declared.cell.Out.{Out}
 use Rattle.ct_base.specs.declared.cell.Out.TheVariants.{Exit, To, Turns}
 use Rattle.traffic_model.specs.Flow.{parcel_to, share, units_of_flow}
-use Rattle.cell_replay.specs.Moves.{passed}
+use Rattle.cell_replay.specs.inner.Moves.{passed}
 
 -- ---- at most what left
 

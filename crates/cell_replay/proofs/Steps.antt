@@ -4,9 +4,10 @@ use Rattle.std.proofs.Math.Nat.{mul-div_cancel_left}
 use Rattle.std.proofs.lemmas.Bool.{cases_lt}
 use Rattle.std.proofs.lemmas.List.{get_or_default, get_or_past, length-replicate}
 use Rattle.std.proofs.lemmas.List.Sums.{get_or-le-sum_by}
-use Rattle.ct_base.proofs.TableLaws.{length-table_of, slice_index-table_of, sum_below-same, table_of-suc, table_of-same}
+use Rattle.listed.proofs.SumLaws.{sum_below-same}
+use Rattle.listed.proofs.TableLaws.{length-table_of, slice_index-table_of, table_of-suc, table_of-same}
 use Rattle.ct_base.specs.Access.{cell_of, no_cell, parcel}
-use Rattle.ct_base.specs.Tables.{table_of}
+use Rattle.listed.specs.Below.{table_of}
 use Rattle.ct_base.specs.Validity.{IsSplit, IsValid}
 use Rattle.ct_base.specs.declared.net.Net.{Net}
 use Rattle.ct_base.specs.declared.cell.Cell.{Cell}
@@ -18,7 +19,8 @@ use Rattle.traffic_model.proofs.TrafficLaws.{AreHeld-initial_units, AreHeld-next
 use Rattle.traffic_model.specs.Flow.{flow, inflow, outflow, share, units_of_flow}
 use Rattle.traffic_model.specs.Occupancy.{AreHeld, demand_at, most_held, next_of, next_units}
 use Rattle.cell_replay.specs.Standing.{IsReplayOf, Standing, at_start, one_step_on}
-use Rattle.cell_replay.specs.Moves.{Fit, entered, held_after, passed}
+use Rattle.cell_replay.specs.Asked.{Fit}
+use Rattle.cell_replay.specs.inner.Moves.{entered, held_after, passed}
 
 -- one cell more at the start
 pub initial-more : (cells : List Cell) (i : ℕ) (items : List ℕ) (cell d : Cell) → i < length cells → cell ≡ get_or cells i d →

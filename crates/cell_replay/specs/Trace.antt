@@ -1,6 +1,6 @@
 -- The table of a replay (docs/traffic.md, "The trace"): its lines go step by step, and in a step cell by cell.
 use Rattle.std.specs.Prelude.{ℕ, zero, suc, List, [], ◌++◌, length, slice_index}
-use Rattle.ct_base.specs.Tables.{table_of}
+use Rattle.listed.specs.Below.{table_of}
 use Rattle.ct_base.specs.declared.cell.Cell.{Cell}
 use Rattle.ct_base.specs.declared.plan.Letter.{Letter}
 use Rattle.traffic_model.specs.Delay.{cell_delay}

@@ -2,11 +2,12 @@
 
 ghost use Rattle.std.specs.Int.{bit_at};
 ghost use Rattle.std.specs.Prelude.{◌≡◌, ◌≢◌, ℕ, ◌==◌, ◌<◌, ◌≤◌, All, IfSome, length, slice_index};
-ghost use Rattle.cell_replay.specs.Moves.{AreBranches, Fit, LeadToRoads, LeadsOn, may_enter, parcels_up_to, sent_by};
+ghost use Rattle.cell_replay.specs.Asked.{AreBranches, Fit, LeadToRoads, LeadsOn};
+ghost use Rattle.cell_replay.specs.inner.Moves.{may_enter, parcels_up_to, sent_by};
 ghost use Rattle.ct_base.specs.Access.{cell_of, parcel, targets};
 ghost use Rattle.ct_base.specs.Validity.{IsSplit};
 ghost use Rattle.ct_base.specs.declared.cell.Kind.TheVariants.{Road};
-ghost use Rattle.traffic_model.specs.Flow.{is_open, outflow};
+ghost use Rattle.traffic_model.specs.Flow.{is_open, outflow, receiving};
 
 use ct_base::{Cell, Gate, Letter, Out};
 
@@ -59,7 +60,7 @@ fn units_leaving_apart(cells: &[Cell], units: &[u32], out: &Out, most: u32) -> u
 }
 
 /// Whether the signals let units leave a cell with this gate.
-fn is_open(letters: &[Letter], gate: &Option<Gate>) -> bool
+pub fn is_open(letters: &[Letter], gate: &Option<Gate>) -> bool
     requires { IfSome gate.now (λ g. g.signal < length letters.now) }
     ensures { result ≡ is_open letters.now gate.now }
 {
@@ -79,17 +80,27 @@ fn is_member(phases: u8, phase: u8) -> bool
     phase < 8 && (phases >> phase) & 1 == 1
 }
 
-/// The units that may enter a road cell in a step: its cap, or what it has room for, a part of its free
-/// storage in whole units.
+/// The units that may enter a road cell in a step: its cap, or what it has room for.
 fn entering(cells: &[Cell], units: &[u32], number: usize) -> u32
     requires fit { Fit cells.now units.now }
     requires there { number < length cells.now }
     requires road { (cell_of cells.now number).kind ≡ Road }
     ensures { result ≡ may_enter cells.now units.now number }
 {
+    cell_at(cells, number)
+        .cap
+        .min(receiving(cells, units, number))
+}
+
+/// The units that a road cell has room for in a step: a part of its free storage in whole units.
+pub fn receiving(cells: &[Cell], units: &[u32], number: usize) -> u32
+    requires fit { Fit cells.now units.now }
+    requires there { number < length cells.now }
+    requires road { (cell_of cells.now number).kind ≡ Road }
+    ensures { result ≡ receiving (cell_of cells.now number) (slice_index units.now number) }
+{
     let cell = cell_at(cells, number);
-    cell.cap
-        .min(cell.wave_p * (cell.store - units[number]) / cell.wave_q)
+    cell.wave_p * (cell.store - units[number]) / cell.wave_q
 }
 
 /// The cell with a number.
@@ -101,7 +112,7 @@ fn cell_at(cells: &[Cell], number: usize) -> &Cell
 }
 
 /// The units of one parcel of a diverge.
-pub(crate) fn parcel(turns: &[(u32, u32)]) -> u32
+pub fn parcel(turns: &[(u32, u32)]) -> u32
     requires { AreBranches turns.now }
     ensures value { result ≡ parcel turns.now }
     ensures some { 1 ≤ result }

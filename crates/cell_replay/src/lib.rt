@@ -11,6 +11,7 @@ mod replay;
 mod tests;
 mod whole_plan;
 
+pub use flow::{is_open, parcel, receiving};
 pub use lines::{Line, Trace, trace};
 pub use replay::{Replay, StepDelay, Totals};
-pub use whole_plan::{delay, prefix_delay, totals};
+pub use whole_plan::{delay, prefix_delay, show, totals};

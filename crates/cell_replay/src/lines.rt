@@ -1,10 +1,10 @@
 //! The table of a replay: what each cell holds, sends and keeps back in each step.
 
 ghost use Rattle.std.specs.Prelude.{◌≡◌, ℕ, ◌++◌, ◌<◌, ◌≤◌, IfOk, OnOk, length, slice_index};
-ghost use Rattle.cell_replay.specs.Moves.{line_of};
+ghost use Rattle.cell_replay.specs.inner.Moves.{line_of};
 ghost use Rattle.cell_replay.specs.Standing.{IsReplayOf, one_step_on};
 ghost use Rattle.cell_replay.specs.Trace.{line_from, trace_of};
-ghost use Rattle.ct_base.specs.Tables.{table_of};
+ghost use Rattle.listed.specs.Below.{table_of};
 ghost use Rattle.ct_base.specs.Validity.{IsValid};
 ghost use Rattle.traffic_model.specs.Delay.{letters_at};
 ghost use Rattle.traffic_model.specs.Runs.{HasWords};

@@ -1,9 +1,10 @@
 //! One step of all cells: first what leaves each of them, and then what each of them holds.
 
 ghost use Rattle.std.specs.Prelude.{◌≡◌, ◌≢◌, ℕ, ◌+◌, ◌*◌, ◌<◌, ◌≤◌, ◌^◌, All, length, slice_index};
-ghost use Rattle.cell_replay.specs.Moves.{AreBranches, AskSignals, Fit, HasDemand, HaveDemand, LeadOn, held_after, passed};
+ghost use Rattle.cell_replay.specs.Asked.{AreBranches, Fit};
+ghost use Rattle.cell_replay.specs.inner.Moves.{AskSignals, HasDemand, HaveDemand, LeadOn, held_after, passed};
 ghost use Rattle.ct_base.specs.Access.{targets};
-ghost use Rattle.ct_base.specs.Tables.{table_of};
+ghost use Rattle.listed.specs.Below.{table_of};
 ghost use Rattle.ct_base.specs.Validity.{IsSplit, IsValid};
 ghost use Rattle.traffic_model.specs.Delay.{step_delay};
 ghost use Rattle.traffic_model.specs.Flow.{outflow, parcel_to};

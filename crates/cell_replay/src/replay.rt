@@ -101,7 +101,7 @@ impl Replay {
     }
 
     /// The units that each cell holds.
-    pub(crate) fn units(&self) -> &[u32]
+    pub fn units(&self) -> &[u32]
         ensures { result.now ≡ self.now.units }
     {
         self.units.as_slice()

@@ -67,7 +67,7 @@ fn totals_of(alloc: Global, net: &Net, plan: &Plan, steps: u32) -> Result<Totals
 }
 
 /// Fills in what each signal shows in a step.
-pub(crate) fn show(words: &[Word], step: u32, letters: &mut [Letter])
+pub fn show(words: &[Word], step: u32, letters: &mut [Letter])
     requires shown { All (λ word. step < length word) words.now }
     requires one_per_signal { length letters.old ≡ length words.now }
     ensures { letters.new ≡ letters_at words.now step }

@@ -1,5 +1,5 @@
 use Rattle.std.proofs.Common.{◌≡◌, ◌≤◌, take}
-use Rattle.cell_replay.specs.Moves.{parcels_up_to}
+use Rattle.cell_replay.specs.inner.Moves.{parcels_up_to}
 use Rattle.cell_replay.proofs.flow.parcels.Given as goal
 
 abbrev pub invariant-loop-target : goal.invariant-loop-target

@@ -3,7 +3,7 @@ use Rattle.ct_base.specs.declared.cell.Cell.{Cell}
 use Rattle.ct_base.specs.declared.cell.Out.TheVariants.{To}
 use Rattle.traffic_model.proofs.TrafficLaws.{outflow-closed}
 use Rattle.traffic_model.specs.Flow.{is_open}
-use Rattle.cell_replay.specs.Moves.{sent_by}
+use Rattle.cell_replay.specs.inner.Moves.{sent_by}
 use Rattle.cell_replay.proofs.Flows.{outflow-sent_by}
 use Rattle.cell_replay.proofs.flow.units_leaving.Goals as goal
 

@@ -1,6 +1,6 @@
 use Rattle.std.proofs.Common.{◌++◌, append-nil, refl, ap, ◌∙◌, sym}
-use Rattle.ct_base.proofs.TableLaws.{table_of-zero}
-use Rattle.cell_replay.specs.Moves.{line_of}
+use Rattle.listed.proofs.TableLaws.{table_of-zero}
+use Rattle.cell_replay.specs.inner.Moves.{line_of}
 use Rattle.cell_replay.proofs.Noting.{one_line_more}
 use Rattle.cell_replay.proofs.lines.add_lines.Goals as goal
 

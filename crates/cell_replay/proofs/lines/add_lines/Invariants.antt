@@ -1,6 +1,6 @@
 use Rattle.std.proofs.Common.{◌≡◌, ◌++◌}
-use Rattle.ct_base.specs.Tables.{table_of}
-use Rattle.cell_replay.specs.Moves.{line_of}
+use Rattle.listed.specs.Below.{table_of}
+use Rattle.cell_replay.specs.inner.Moves.{line_of}
 use Rattle.cell_replay.proofs.lines.add_lines.Given as goal
 
 abbrev pub invariant-loop-number : goal.invariant-loop-number

@@ -1,5 +1,5 @@
 use Rattle.std.proofs.Common.{◌≡◌, ◌++◌, OnOk, length, subst, ◌∙◌}
-use Rattle.ct_base.specs.Tables.{table_of}
+use Rattle.listed.specs.Below.{table_of}
 use Rattle.traffic_model.specs.Flow.{outflow}
 use Rattle.cell_replay.proofs.Noting.{leaves_in_step, lines_from_step}
 use Rattle.cell_replay.proofs.Steps.{sent-held}

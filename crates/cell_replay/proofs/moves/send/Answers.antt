@@ -1,7 +1,8 @@
 use Rattle.std.proofs.Common.{◌≡◌, ◌+◌, ◌-◌, length, slice_index, ap, ◌∙◌, sym, arith}
 use Rattle.std.proofs.lemmas.Grind.{common_steps}
-use Rattle.ct_base.proofs.TableLaws.{sum_below-zero, sum_below-suc, fill}
-use Rattle.ct_base.specs.Tables.{sum_below}
+use Rattle.listed.proofs.SumLaws.{sum_below-zero, sum_below-suc}
+use Rattle.listed.proofs.TableLaws.{fill}
+use Rattle.listed.specs.Below.{sum_below}
 use Rattle.traffic_model.specs.Delay.{cell_delay, step_delay}
 use Rattle.traffic_model.specs.Flow.{outflow}
 use Rattle.cell_replay.proofs.moves.send.Goals as goal

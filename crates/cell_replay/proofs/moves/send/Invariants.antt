@@ -1,5 +1,5 @@
 use Rattle.std.proofs.Common.{◌≡◌, ℕ, ◌*◌, ◌^◌, ◌<◌, ◌≤◌, slice_index}
-use Rattle.ct_base.specs.Tables.{sum_below}
+use Rattle.listed.specs.Below.{sum_below}
 use Rattle.traffic_model.specs.Delay.{cell_delay}
 use Rattle.traffic_model.specs.Flow.{outflow}
 use Rattle.cell_replay.proofs.moves.send.Given as goal

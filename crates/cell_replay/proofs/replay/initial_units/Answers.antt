@@ -1,7 +1,7 @@
 use Rattle.std.proofs.Common.{◌≡◌, length, ap, ◌∙◌, sym, arith}
-use Rattle.ct_base.proofs.TableLaws.{table_of-zero}
+use Rattle.listed.proofs.TableLaws.{table_of-zero}
 use Rattle.ct_base.specs.Access.{cell_of}
-use Rattle.ct_base.specs.Tables.{table_of}
+use Rattle.listed.specs.Below.{table_of}
 use Rattle.traffic_model.specs.Occupancy.{initial_units}
 use Rattle.cell_replay.proofs.Steps.{initial-more}
 use Rattle.cell_replay.proofs.replay.initial_units.Goals as goal

@@ -1,6 +1,6 @@
 use Rattle.std.proofs.Common.{◌≡◌, vec_len}
 use Rattle.ct_base.specs.Access.{cell_of}
-use Rattle.ct_base.specs.Tables.{table_of}
+use Rattle.listed.specs.Below.{table_of}
 use Rattle.cell_replay.proofs.replay.initial_units.Given as goal
 
 abbrev pub invariant-loop-cell : goal.invariant-loop-cell

@@ -1,0 +1,16 @@
+pub mod BuildingLaws
+pub mod CapLaws
+pub mod CountLaws
+pub mod LayoutLaws
+pub mod RowLaws
+pub mod BitLaws
+pub mod Inserting
+pub mod LastingLaws
+pub mod StepLaws
+pub mod RowCounts
+pub mod EncodingLaws
+pub mod LeftOut
+pub mod FeederLaws
+pub mod FewFeeders
+pub mod ConservationLaws
+pub mod Numbered

@@ -1,0 +1,20 @@
+use Rattle.std.proofs.Common.{arith, length}
+use Rattle.ct_base.specs.Access.{phase_of, signal_of}
+use Rattle.ct_base.specs.declared.plan.Letter.TheVariants.{Green}
+use Rattle.program_model.specs.RuleRows.{end_rows}
+use Rattle.lo_program.proofs.RowLaws.{adds_no_part, adds_part, fits_part}
+use Rattle.lo_program.proofs.rules.add_green_end_rows.Goals as goal
+
+pub loop-p-init : goal.loop-p-init
+loop-p-init c = adds_no_part c.args.net.now c.args.builder.now (λ p. end_rows c.args.net.now.steps c.args.bits.now.signal c.args.t (Green p) (phase_of (signal_of c.args.net.now.signals c.args.bits.now.signal) p).max)
+
+pub add_end_rows-requires-clause-fits : goal.add_end_rows-requires-clause-fits
+add_end_rows-requires-clause-fits c =
+    rw c.phase-phase.ensures.value
+    (fits_part c.args.net.now c.args.builder.now c.loop-p.builder (length (signal_of c.args.net.now.signals c.args.bits.now.signal).phases) c.loop-p.p (λ p. end_rows c.args.net.now.steps c.args.bits.now.signal c.args.t (Green p) (phase_of (signal_of c.args.net.now.signals c.args.bits.now.signal) p).max)
+    c.requires.fits (omega (arith, c.loop-p-test.true, c.phases-p-end.ensures)) c.loop-p.invariant)
+
+pub loop-p-preserved : goal.loop-p-preserved
+loop-p-preserved c =
+    adds_part c.args.net.now c.args.builder.now c.loop-p.builder c.add_end_rows.new.builder c.loop-p.p (λ p. end_rows c.args.net.now.steps c.args.bits.now.signal c.args.t (Green p) (phase_of (signal_of c.args.net.now.signals c.args.bits.now.signal) p).max)
+    c.loop-p.invariant (rw c.phase-phase.ensures.value at c.in_ok-add_end_rows.ensures)

@@ -1,0 +1,54 @@
+//! What has arrived at the cells before a step, kept from step to step.
+
+ghost use Rattle.std.specs.Prelude.{◌≡◌, ◌+◌, ◌≤◌, ◌<◌, IfOk, length};
+ghost use Rattle.listed.specs.Below.{table_of};
+ghost use Rattle.ct_base.specs.Access.{cell_of};
+ghost use Rattle.ct_base.specs.Validity.{IsValid};
+ghost use Rattle.lo_program.specs.inner.Columns.{arrived_before};
+ghost use Rattle.traffic_model.specs.Occupancy.{demand_at};
+
+use ct_base::{Listed, Memory, Net};
+use std::alloc::Global;
+
+/// What has arrived at each cell before step 0.
+pub(crate) fn none_arrived(alloc: Global, net: &Net) -> Result<Listed<u32>, Memory>
+    ensures { IfOk result (λ arrived. arrived ≡ table_of (length net.now.cells) (arrived_before net.now.cells 0)) }
+{
+    let mut arrived = Listed::new(alloc);
+    for i in 0..net.cells.len() {
+        let _ = i;
+        arrived.push(0)?;
+    }
+    Ok(arrived)
+}
+
+/// What has arrived at each cell before the step after step t.
+pub(crate) fn more_arrived(
+    alloc: Global,
+    net: &Net,
+    arrived: &[u32],
+    t: u32,
+) -> Result<Listed<u32>, Memory>
+    requires valid { IsValid net.now }
+    requires before { t < net.now.steps }
+    requires arrived { arrived.now ≡ table_of (length net.now.cells) (arrived_before net.now.cells t) }
+    ensures { IfOk result (λ more. more ≡ table_of (length net.now.cells) (arrived_before net.now.cells (t + 1))) }
+{
+    let mut more = Listed::new(alloc);
+    for i in 0..net.cells.len() {
+        more.push(arrived[i] + demand_at(net, i, t))?;
+    }
+    Ok(more)
+}
+
+/// The units that arrive at cell i at the end of step t.
+fn demand_at(net: &Net, i: usize, t: u32) -> u32
+    requires valid { IsValid net.now }
+    requires inside { i < length net.now.cells }
+    ensures { result ≡ demand_at (cell_of net.now.cells i) t }
+{
+    match net.cell(i).demand.as_slice().get(t as usize) {
+        Some(units) => *units,
+        None => 0,
+    }
+}

@@ -1,0 +1,5 @@
+pub mod TextLaws
+pub mod PointLaws
+pub mod ReadLaws
+pub mod SpellLaws
+pub mod KnownValues

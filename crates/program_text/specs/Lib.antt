@@ -1,0 +1,2 @@
+pub mod ProgramText
+pub mod PointText
