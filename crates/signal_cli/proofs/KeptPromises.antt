@@ -2,12 +2,12 @@
 use Rattle.std.proofs.Common.{◌≡◌, ℕ, ◌≤◌, ◌⊎◌, inl, inr, Bool, true, false, if◌then◌else◌, List, [], ◌∷◌, map, Option, Some, None, Result, Ok, Err, IfSome, Contains, refl, ap, sym, ◌∙◌, subst, arith}
 use Rattle.shelf_io.specs.Told.{Files, Rises, ShelfState, SinkState, StopsInText, read_failed, with_taken}
 use Rattle.shelf_io.specs.declared.file_map.File.{File}
-use Rattle.signal_cli.specs.Causes.{CarriesOut, Finds}
+use Rattle.signal_cli.specs.inner.Causes.{CarriesOut, Finds}
 use Rattle.signal_cli.specs.Faults.{line_of, outcome_status, reply_status, status_of}
 use Rattle.signal_cli.specs.Promises.{Answered, FailedToRead, FailedToWrite, KeepsReply, Refused, WantedMemory, statuses_of_commands}
 use Rattle.signal_cli.specs.Worlds.{ForFiles, ForTold, NoneFailed, PutsAsFar, StopsInFiles, Untouched, World, with_files, world}
 use Rattle.signal_cli.specs.declared.fault.Fault.{Fault}
-use Rattle.signal_cli.specs.declared.fault.Fault.TheVariants.{NetworkLong, Network, Build, PlanLong, Plan, Read, Memory}
+use Rattle.signal_cli.specs.declared.fault.Fault.TheVariants.{NetworkLong, Network, PlanLong, Plan, Read, Memory}
 use Rattle.signal_cli.specs.declared.reply.Reply.{Reply}
 use Rattle.signal_cli.proofs.Unnamed.{names_of, same_writes, untouched_read, untouched_shelf, untouched_stopped, untouched_written}
 
@@ -146,6 +146,5 @@ module _ (Deserves : Files → Result Reply Fault → Type 0) (outputs : List (L
   keeps (Err Read) middle status (inr missing) put = keeps-read status put.0 (record { cause = inr (put.1 ∙ missing.0, missing.1); put = put.2 })
   keeps (Err NetworkLong) middle status found carried = keeps-fault NetworkLong status (2, omega arith, refl) (omega arith) (omega arith) middle found.0 found.1 carried
   keeps (Err (Network fault)) middle status found carried = keeps-fault (Network fault) status (2, omega arith, refl) (omega arith) (omega arith) middle found.0 found.1 carried
-  keeps (Err (Build fault)) middle status found carried = keeps-fault (Build fault) status (2, omega arith, refl) (omega arith) (omega arith) middle found.0 found.1 carried
   keeps (Err PlanLong) middle status found carried = keeps-fault PlanLong status (3, omega arith, refl) (omega arith) (omega arith) middle found.0 found.1 carried
   keeps (Err (Plan fault)) middle status found carried = keeps-fault (Plan fault) status (3, omega arith, refl) (omega arith) (omega arith) middle found.0 found.1 carried

@@ -3,7 +3,7 @@ use Rattle.std.proofs.Common.{◌≡◌, ℕ, List, [], ◌∷◌, Option, Some,
 use Rattle.shelf_io.specs.Told.{Files}
 use Rattle.ct_base.specs.declared.net.Net.{Net}
 use Rattle.ct_base.specs.declared.signal.Signal.{Signal}
-use Rattle.cell_build.specs.Naming.{Named}
+use Rattle.named_net.specs.Naming.{Named}
 use Rattle.signal_cli.specs.Answers.{◌>>=◌, Deserves, network_in, planned_in, printed, replay_alone, replay_lines, trace_reply}
 use Rattle.signal_cli.specs.Commands.{Command, Replay, Trace, outputs_of}
 use Rattle.signal_cli.specs.declared.fault.Fault.{Fault}

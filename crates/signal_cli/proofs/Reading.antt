@@ -6,18 +6,19 @@ use Rattle.std.proofs.lemmas.Slice.Eq.{bytes_eq-Decides}
 use Rattle.std.specs.FinMap as map
 use Rattle.std.specs.Str.{bytes_eq}
 use Rattle.ct_base.specs.declared.plan.Plan.{Plan}
-use Rattle.cell_build.specs.Naming.{Named}
+use Rattle.named_net.specs.Naming.{Named}
 use Rattle.shelf_io.specs.Told.{Files, IfTold, IsMissing, FailsToRead, ShelfState, bytes_of, read_failed}
 use Rattle.shelf_io.proofs.Growing.{get_same}
 use Rattle.shelf_io.proofs.NamedFiles.{get_inserted}
-use Rattle.signal_cli.specs.Answers.{◌>>=◌, content_in, content_of, file_limit, found, network_from, network_in, plan_from, plan_in, planned_in}
+use Rattle.limits.specs.declared.TheConstants.{MAX_FILE_BYTES}
+use Rattle.signal_cli.specs.Answers.{◌>>=◌, content_in, content_of, found, network_from, network_in, plan_from, plan_in, planned_in}
 use Rattle.shelf_io.specs.Front.{EndsReading}
 use Rattle.shelf_io.specs.declared.whole_file.ReadAll.{ReadAll}
 use Rattle.shelf_io.specs.declared.whole_file.ReadAll.TheVariants as ended
-use Rattle.signal_cli.specs.Causes.{Finds, Gives, ended_as}
+use Rattle.signal_cli.specs.inner.Causes.{Finds, Gives, ended_as}
 use Rattle.signal_cli.specs.Worlds.{ForFiles, ForTold}
 use Rattle.signal_cli.specs.declared.fault.Fault.{Fault}
-use Rattle.signal_cli.specs.declared.fault.Fault.TheVariants.{NetworkLong, Network, Build, PlanLong, Plan as PlanRefused, Read, Memory}
+use Rattle.signal_cli.specs.declared.fault.Fault.TheVariants.{NetworkLong, Network, PlanLong, Plan as PlanRefused, Read, Memory}
 use Rattle.signal_cli.specs.declared.input.Content.{Content}
 use Rattle.signal_cli.specs.declared.input.Content.TheVariants.{TooLong, Whole}
 use Rattle.signal_cli.specs.declared.input.Planned.{Planned}
@@ -121,13 +122,13 @@ differ_too a b differ = by_test (bytes_eq b a) refl
         cc
 
 -- the network of one file and the plan of another, where files are not told: some files hold both
-joined : (network plan : List ℕ) → bytes_eq plan network ≡ false → (named : Named) (outcome : Result Plan Fault) (seen : Option (List ℕ)) → (found file_limit seen >>= network_from) ≡ Ok named → (files : Files) → plan_in named files plan ≡ outcome → (files : Files) × (planned_in files network plan ≡ (outcome >>= (λ (plan : Plan). Ok (record { named = named; plan = plan }))))
+joined : (network plan : List ℕ) → bytes_eq plan network ≡ false → (named : Named) (outcome : Result Plan Fault) (seen : Option (List ℕ)) → (found MAX_FILE_BYTES seen >>= network_from) ≡ Ok named → (files : Files) → plan_in named files plan ≡ outcome → (files : Files) × (planned_in files network plan ≡ (outcome >>= (λ (plan : Plan). Ok (record { named = named; plan = plan }))))
 joined network plan differ named outcome None spelled files deserved = absurd (cc)
 joined network plan differ named outcome (Some bytes) spelled files deserved =
     let both : Files = map.insert files network bytes in
-    let network_is : network_in both network ≡ Ok named = ap (λ (seen : Option (List ℕ)). found file_limit seen >>= network_from) (get_same files network bytes) ∙ spelled in
+    let network_is : network_in both network ≡ Ok named = ap (λ (seen : Option (List ℕ)). found MAX_FILE_BYTES seen >>= network_from) (get_same files network bytes) ∙ spelled in
     let plan_is : plan_in named both plan ≡ outcome =
-    ap (λ (seen : Option (List ℕ)). found file_limit seen >>= plan_from named) (get_inserted files network bytes plan ∙ ap (λ (test : Bool). cond test (Some bytes) (map.get files plan)) differ) ∙ deserved in (
+    ap (λ (seen : Option (List ℕ)). found MAX_FILE_BYTES seen >>= plan_from named) (get_inserted files network bytes plan ∙ ap (λ (test : Bool). cond test (Some bytes) (map.get files plan)) differ) ∙ deserved in (
       both,
       ap (λ (made : Result Named Fault). made >>= (λ (named : Named). plan_in named both plan >>= (λ (plan : Plan). Ok (record { named = named; plan = plan })))) network_is
           ∙ ap (λ (made : Result Plan Fault). made >>= (λ (plan : Plan). Ok (record { named = named; plan = plan }))) plan_is,

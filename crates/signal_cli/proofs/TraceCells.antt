@@ -1,8 +1,8 @@
 -- Each line of a trace is of a cell of the network.
 use Rattle.std.proofs.Common.{◌≡◌, ℕ, zero, suc, ◌+◌, ◌<◌, ◌≤◌, List, [], ◌∷◌, ◌++◌, length, All, subst, sym, ap, ◌∙◌, refl, add-one, arith}
 use Rattle.std.proofs.lemmas.List.Elements.{All-append, All-nil, All-push}
-use Rattle.ct_base.proofs.TableLaws.{table_of-suc, table_of-zero}
-use Rattle.ct_base.specs.Tables.{table_of}
+use Rattle.listed.proofs.TableLaws.{table_of-suc, table_of-zero}
+use Rattle.listed.specs.Below.{table_of}
 use Rattle.ct_base.specs.declared.cell.Cell.{Cell}
 use Rattle.ct_base.specs.declared.plan.Letter.{Letter}
 use Rattle.traffic_model.specs.Occupancy.{occupancies}

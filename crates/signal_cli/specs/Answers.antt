@@ -2,18 +2,16 @@
 -- (README.md, "Statuses").
 use Rattle.std.specs.Prelude.{◌≡◌, ℕ, false, nat_lt, if◌then◌else◌, List, [], ◌∷◌, ◌++◌, length, Option, Some, None, Result, Ok, Err, codes}
 use Rattle.std.specs.Fmt.{decimal}
+use Rattle.limits.specs.declared.TheConstants.{MAX_FILE_BYTES}
 use Rattle.shelf_io.specs.Told.{Files, bytes_of}
 use Rattle.ct_base.specs.declared.net.Net.{Net}
 use Rattle.ct_base.specs.declared.plan.Letter.{Letter}
 use Rattle.ct_base.specs.declared.plan.Plan.{Plan}
 use Rattle.ct_base.specs.declared.signal.Signal.{Signal}
 use Rattle.traffic_model.specs.Delay.{delay_of, left_of, letters_at}
-use Rattle.network_file.specs.Spelled.{raw_network}
-use Rattle.network_file.specs.declared.fault.NetFault.{NetFault}
-use Rattle.network_file.specs.declared.raw.RawNet.{RawNet}
-use Rattle.cell_build.specs.Built.{built}
-use Rattle.cell_build.specs.Naming.{Named}
-use Rattle.cell_build.specs.declared.fault.BuildFault.{BuildFault}
+use Rattle.named_net.specs.Naming.{Named}
+use Rattle.cell_build.specs.Spelled.{spelled_network}
+use Rattle.cell_build.specs.declared.network_fault.NetworkFault.{NetworkFault}
 use Rattle.plan_file.specs.Spelled.{spelled_plan}
 use Rattle.plan_file.specs.declared.fault.PlanFault.{PlanFault}
 use Rattle.plan_file.specs.declared.fault.PlanFault.TheVariants.{Missing}
@@ -21,7 +19,7 @@ use Rattle.cell_replay.specs.Trace.{trace_of}
 use Rattle.plan_report.specs.Table.{trace_text}
 use Rattle.signal_cli.specs.Commands.{Command, Replay, Trace}
 use Rattle.signal_cli.specs.declared.fault.Fault.{Fault}
-use Rattle.signal_cli.specs.declared.fault.Fault.TheVariants.{NetworkLong, Network, Build, PlanLong, Plan as PlanRefused, Read}
+use Rattle.signal_cli.specs.declared.fault.Fault.TheVariants.{NetworkLong, Network, PlanLong, Plan as PlanRefused, Read}
 use Rattle.signal_cli.specs.declared.input.Content.{Content}
 use Rattle.signal_cli.specs.declared.input.Content.TheVariants.{TooLong, Whole}
 use Rattle.signal_cli.specs.declared.input.Planned.{Planned}
@@ -46,23 +44,14 @@ found limit (Some bytes) = Ok (content_of limit bytes)
 abbrev pub content_in : Files → List ℕ → ℕ → Result Content Fault
 content_in files name limit = found limit (bytes_of files name)
 
--- the most bytes of a network file, and of a plan file
-abbrev pub file_limit : ℕ
-file_limit = 1048576
-
--- what became of links and signals, as an answer of the program
-abbrev pub built_as : Result Named BuildFault → Result Named Fault
-built_as (Ok named) = Ok named
-built_as (Err fault) = Err (Build fault)
-
--- what links and signals become, or the fault of the file that should spell them
-abbrev pub spelled_as : Result RawNet NetFault → Result Named Fault
-spelled_as (Ok raw) = built_as (built raw)
-spelled_as (Err fault) = Err (Network fault)
+-- what became of the bytes of a network file, as an answer of the program
+abbrev pub network_as : Result Named NetworkFault → Result Named Fault
+network_as (Ok named) = Ok named
+network_as (Err fault) = Err (Network fault)
 
 -- the network that bytes spell
 unfoldable pub network : List ℕ → Result Named Fault
-network bytes = spelled_as (raw_network bytes)
+network bytes = network_as (spelled_network bytes)
 
 -- the network that a file holds
 abbrev pub network_from : Content → Result Named Fault
@@ -71,7 +60,7 @@ network_from (Whole bytes) = network bytes
 
 -- the network in the named file
 abbrev pub network_in : Files → List ℕ → Result Named Fault
-network_in files name = content_in files name file_limit >>= network_from
+network_in files name = content_in files name MAX_FILE_BYTES >>= network_from
 
 -- what became of a text, as an answer of the program
 abbrev pub planned_as : Result Plan PlanFault → Result Plan Fault
@@ -89,7 +78,7 @@ plan_from named (Whole bytes) = plan named bytes
 
 -- the plan in the named file for a network
 abbrev pub plan_in : Named → Files → List ℕ → Result Plan Fault
-plan_in named files name = content_in files name file_limit >>= plan_from named
+plan_in named files name = content_in files name MAX_FILE_BYTES >>= plan_from named
 
 -- a network and a plan for it, each judged as soon as its file was read
 abbrev pub planned_in : Files → List ℕ → List ℕ → Result Planned Fault

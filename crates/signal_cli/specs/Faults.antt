@@ -1,9 +1,23 @@
--- The status of a reply, and the status and the line of each fault (README.md, "Statuses").
+-- The faults of a network and of a plan as those of the program, the status of a reply, and the status and the line of each fault (README.md, "Statuses").
 use Rattle.std.specs.Prelude.{ℕ, if◌then◌else◌, List, [], ◌∷◌, ◌++◌, Result, Ok, Err, codes}
-use Rattle.plan_report.specs.FaultLines.{build_text, net_text, plan_text}
+use Rattle.cell_build.specs.declared.network_fault.NetworkFault.{NetworkFault}
+use Rattle.cell_build.specs.declared.network_fault.NetworkFault.TheVariants as unspelled
+use Rattle.plan_file.specs.declared.fault.PlanFault.{PlanFault}
+use Rattle.plan_file.specs.declared.fault.PlanFault.TheVariants as unplanned
+use Rattle.fault_words.specs.Words.{network_text, plan_text}
 use Rattle.signal_cli.specs.declared.fault.Fault.{Fault}
-use Rattle.signal_cli.specs.declared.fault.Fault.TheVariants.{NetworkLong, Network, Build, PlanLong, Plan, Read, Memory}
+use Rattle.signal_cli.specs.declared.fault.Fault.TheVariants.{NetworkLong, Network, PlanLong, Plan, Read, Memory}
 use Rattle.signal_cli.specs.declared.reply.Reply.{Reply}
+
+-- a fault of a network as one of the program
+abbrev pub unspelled_of : NetworkFault → Fault
+unspelled_of unspelled.Memory = Memory
+unspelled_of fault = Network fault
+
+-- a fault of a plan as one of the program
+abbrev pub unplanned_of : PlanFault → Fault
+unplanned_of unplanned.Memory = Memory
+unplanned_of fault = Plan fault
 
 -- 0, or 1 where a file is not accepted
 abbrev pub reply_status : Reply → ℕ
@@ -13,7 +27,6 @@ reply_status reply = if reply.rejected then 1 else 0
 abbrev pub status_of : Fault → ℕ
 status_of NetworkLong = 3
 status_of (Network fault) = 3
-status_of (Build fault) = 3
 status_of PlanLong = 4
 status_of (Plan fault) = 4
 status_of Read = 6
@@ -31,8 +44,7 @@ line text = text ++ 10 ∷ []
 -- the line of a fault
 unfoldable pub line_of : Fault → List ℕ
 line_of NetworkLong = line (codes "network long")
-line_of (Network fault) = line (codes "network " ++ net_text fault)
-line_of (Build fault) = line (codes "network " ++ build_text fault)
+line_of (Network fault) = line (codes "network " ++ network_text fault)
 line_of PlanLong = line (codes "plan long")
 line_of (Plan fault) = line (codes "plan " ++ plan_text fault)
 line_of Read = line (codes "read fault")

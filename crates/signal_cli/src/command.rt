@@ -3,7 +3,7 @@
 ghost use Rattle.std.specs.Prelude.{◌≡◌, [], ◌∷◌, ◌++◌, IfSome, true, option_map};
 ghost use Rattle.signal_cli.specs.Commands.{command_of, form_of, inputs_of, outputs_of};
 ghost use Rattle.signal_cli.specs.Commands as said;
-ghost use Rattle.signal_cli.specs.CommandViews.{view_of};
+ghost use Rattle.signal_cli.specs.inner.CommandViews.{view_of};
 
 use shelf_io::{Text, Words};
 

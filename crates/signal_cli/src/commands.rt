@@ -2,9 +2,9 @@
 
 ghost use Rattle.std.specs.Prelude.{◌≡◌, ◌++◌, true};
 ghost use Rattle.signal_cli.specs.Answers.{Deserves};
-ghost use Rattle.signal_cli.specs.Causes.{Finds};
+ghost use Rattle.signal_cli.specs.inner.Causes.{Finds};
 ghost use Rattle.signal_cli.specs.Commands.{are_names, inputs_of, outputs_of};
-ghost use Rattle.signal_cli.specs.CommandViews.{view_of};
+ghost use Rattle.signal_cli.specs.inner.CommandViews.{view_of};
 
 mod replay;
 mod trace;

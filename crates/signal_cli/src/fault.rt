@@ -1,13 +1,12 @@
 //! Why a command was not done, and the status that it ends with.
 
 ghost use Rattle.std.specs.Prelude.{◌≡◌};
-ghost use Rattle.signal_cli.specs.Causes.{unbuilt_of, unplanned_of, unread_of};
+ghost use Rattle.signal_cli.specs.Faults.{unplanned_of, unspelled_of};
 ghost use Rattle.signal_cli.specs.Faults.{status_of};
 ghost use Rattle.signal_cli.specs.declared.fault.Fault.TheVariants as fault;
 
-use cell_build::BuildFault;
+use cell_build::NetworkFault;
 use ct_base::Memory;
-use network_file::NetFault;
 use plan_file::PlanFault;
 use std::alloc::AllocError;
 
@@ -17,9 +16,7 @@ pub enum Fault {
     /// The network file is longer than its limit.
     NetworkLong,
     /// The network file spells no network.
-    Network(NetFault),
-    /// The links and signals of the network file make no network of cells.
-    Build(BuildFault),
+    Network(NetworkFault),
     /// The plan file is longer than its limit.
     PlanLong,
     /// The plan file spells no plan for the network, or the network wants a plan.
@@ -36,7 +33,7 @@ impl Fault {
         ensures { result ≡ status_of self }
     {
         match self {
-            Fault::NetworkLong | Fault::Network(_) | Fault::Build(_) => 3,
+            Fault::NetworkLong | Fault::Network(_) => 3,
             Fault::PlanLong | Fault::Plan(_) => 4,
             Fault::Read => 6,
             Fault::Memory => 8,
@@ -44,24 +41,13 @@ impl Fault {
     }
 }
 
-impl From<NetFault> for Fault {
-    ghost from_gives = { λ fault made. made ≡ unread_of fault };
+impl From<NetworkFault> for Fault {
+    ghost from_gives = { λ fault made. made ≡ unspelled_of fault };
 
-    fn from(fault: NetFault) -> Fault {
+    fn from(fault: NetworkFault) -> Fault {
         match fault {
-            NetFault::Memory => Fault::Memory,
+            NetworkFault::Memory => Fault::Memory,
             fault => Fault::Network(fault),
-        }
-    }
-}
-
-impl From<BuildFault> for Fault {
-    ghost from_gives = { λ fault made. made ≡ unbuilt_of fault };
-
-    fn from(fault: BuildFault) -> Fault {
-        match fault {
-            BuildFault::Memory => Fault::Memory,
-            fault => Fault::Build(fault),
         }
     }
 }

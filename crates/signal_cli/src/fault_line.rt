@@ -5,7 +5,7 @@ ghost use Rattle.signal_cli.specs.Faults.{line_of};
 
 use crate::fault::Fault;
 use ct_base::Text;
-use plan_report::{build_text, net_text, plan_text};
+use fault_words::{network_text, plan_text};
 use std::alloc::{AllocError, Global};
 
 /// The line that says why a command was not done.
@@ -16,11 +16,7 @@ pub fn line_of(alloc: Global, fault: Fault) -> Result<Text, AllocError>
     Ok(Text::of(match fault {
         Fault::NetworkLong => format!(in alloc; "network long\n")?,
         Fault::Network(fault) => {
-            let text = net_text(alloc, fault)?;
-            format!(in alloc; "network {text}\n")?
-        }
-        Fault::Build(fault) => {
-            let text = build_text(alloc, fault)?;
+            let text = network_text(alloc, fault)?;
             format!(in alloc; "network {text}\n")?
         }
         Fault::PlanLong => format!(in alloc; "plan long\n")?,

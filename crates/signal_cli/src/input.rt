@@ -4,17 +4,15 @@ ghost use Rattle.std.specs.Prelude.{◌≡◌, ◌≤◌, false, Err, IfOk};
 ghost use Rattle.std.specs.Str.{bytes_eq};
 ghost use Rattle.traffic_model.specs.Runs.{IsAdmissiblePlan};
 ghost use Rattle.signal_cli.specs.Answers.{content_in, network, network_from, network_in, plan, plan_from, plan_in, planned_in};
-ghost use Rattle.signal_cli.specs.Causes.{Finds, Gives, ended_as};
+ghost use Rattle.signal_cli.specs.inner.Causes.{Finds, Gives, ended_as};
 ghost use Rattle.signal_cli.specs.declared.fault.Fault.TheVariants as fault;
 
 use crate::fault::Fault;
-use cell_build::{NamedNet, build};
 use ct_base::{Listed, Plan};
+use limits::MAX_FILE_BYTES;
+use named_net::NamedNet;
 use shelf_io::{ReadAll, Shelf, read_all};
 use std::alloc::Global;
-
-/// The most bytes of a network file, and of a plan file.
-const FILE_LIMIT: u64 = 1_048_576;
 
 /// What a file holds.
 #[derive(Debug, Drop)]
@@ -36,7 +34,7 @@ pub struct Planned {
 pub fn read_network<F: Shelf>(alloc: Global, shelf: &mut F, name: &str) -> Result<NamedNet, Fault>
     ensures { Finds (λ files outcome. network_in files name.now ≡ outcome) result (F.state shelf.old) (F.state shelf.new) }
 {
-    let content = read_content(alloc, shelf, name, FILE_LIMIT)?;
+    let content = read_content(alloc, shelf, name, MAX_FILE_BYTES)?;
     let named = network_from(alloc, content)?;
     Ok(named)
 }
@@ -51,7 +49,7 @@ fn read_plan<F: Shelf>(
     ensures found { Finds (λ files outcome. plan_in named.now files name.now ≡ outcome) result (F.state shelf.old) (F.state shelf.new) }
     ensures admissible { IfOk result (IsAdmissiblePlan named.now.net) }
 {
-    let content = read_content(alloc, shelf, name, FILE_LIMIT)?;
+    let content = read_content(alloc, shelf, name, MAX_FILE_BYTES)?;
     let plan = plan_from(alloc, named, content)?;
     Ok(plan)
 }
@@ -117,8 +115,7 @@ fn network_from(alloc: Global, content: Content) -> Result<NamedNet, Fault>
 fn network_of(alloc: Global, bytes: &[u8]) -> Result<NamedNet, Fault>
     ensures { Gives result (network bytes.now) }
 {
-    let raw = network_file::read(alloc, bytes)?;
-    let named = build(alloc, raw)?;
+    let named = cell_build::read(alloc, bytes)?;
     Ok(named)
 }
 

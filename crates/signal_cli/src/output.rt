@@ -1,7 +1,7 @@
 //! What is written and put at the end of a run, and the status that comes of it.
 
 ghost use Rattle.std.specs.Prelude.{◌≡◌, Ok, Err, OnOk, OnErr, codes};
-ghost use Rattle.signal_cli.specs.Causes.{CarriesOut};
+ghost use Rattle.signal_cli.specs.inner.Causes.{CarriesOut};
 ghost use Rattle.signal_cli.specs.Faults.{line};
 ghost use Rattle.signal_cli.specs.Worlds.{PutsAsFar, StopsInFiles, with_files, world};
 

@@ -3,6 +3,7 @@
 mod calls;
 mod examples;
 mod networks;
+mod plan_texts;
 mod plans;
 mod traces;
 mod world;

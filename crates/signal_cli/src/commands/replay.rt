@@ -8,15 +8,15 @@ ghost use Rattle.traffic_model.specs.Runs.{HasWords};
 ghost use Rattle.signal_cli.specs.Answers as said;
 ghost use Rattle.signal_cli.specs.Answers.{printed, replay_lines, replay_of};
 ghost use Rattle.plan_file.specs.declared.fault.PlanFault.TheVariants.{Missing};
-ghost use Rattle.signal_cli.specs.Causes.{Finds, Gives};
+ghost use Rattle.signal_cli.specs.inner.Causes.{Finds, Gives};
 ghost use Rattle.signal_cli.specs.declared.fault.Fault.TheVariants as fault;
 
 use crate::fault::Fault;
 use crate::input::{read_network, read_planned};
 use crate::reply::Reply;
-use cell_build::NamedNet;
 use cell_replay::totals;
 use ct_base::{Listed, Net, Plan, Text};
+use named_net::NamedNet;
 use plan_file::PlanFault;
 use shelf_io::Shelf;
 use std::alloc::Global;

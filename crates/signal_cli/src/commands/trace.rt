@@ -7,14 +7,14 @@ ghost use Rattle.traffic_model.specs.Runs.{HasWords, IsAdmissiblePlan};
 ghost use Rattle.cell_replay.specs.Trace.{trace_of};
 ghost use Rattle.plan_report.specs.Table.{trace_text};
 ghost use Rattle.signal_cli.specs.Answers.{trace_in, trace_reply};
-ghost use Rattle.signal_cli.specs.Causes.{Finds, Gives};
+ghost use Rattle.signal_cli.specs.inner.Causes.{Finds, Gives};
 
 use crate::commands::replay::lines_of;
 use crate::fault::Fault;
 use crate::input::{Planned, read_planned};
 use crate::reply::Reply;
-use cell_build::NamedNet;
 use ct_base::{Listed, Memory, Plan, Text};
+use named_net::NamedNet;
 use plan_report::trace_csv;
 use shelf_io::{File, FileList, Shelf};
 use std::alloc::Global;

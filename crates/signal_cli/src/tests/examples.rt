@@ -8,6 +8,10 @@ pub const ONE_LINK: &str =
 pub const TWO_LINKS: &str =
     "format = 1\nsteps = 6\n[[link]]\nname = \"a\"\ncap = 2\nstore = 4\nto = \"b\"\nrates = [2]\n[[link]]\nname = \"b\"\ncap = 1\nstore = 2\nwave = [1, 2]\n";
 
+/// A link whose queue gets twelve units at once in step 8, of which two leave it in each step.
+pub const LATE_QUEUE: &str =
+    "format = 1\nsteps = 11\n[[link]]\nname = \"north_2\"\ncells = 2\ncap = 2\nstore = 4\nrates = [0, 0, 0, 0, 0, 0, 0, 0, 12]\n";
+
 /// A link with five units that diverges in parcels of three.
 pub const DIVERGE: &str =
     "format = 1\nsteps = 2\n[[link]]\nname = \"d\"\ncap = 6\nstore = 9\ninitial = [5]\nturns = [{ link = \"b\", parcel = 2 }, { link = \"c\", parcel = 1 }]\n[[link]]\nname = \"b\"\ncap = 6\nstore = 9\n[[link]]\nname = \"c\"\ncap = 6\nstore = 9\n";

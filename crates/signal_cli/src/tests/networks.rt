@@ -3,7 +3,6 @@
 use crate::fault::Fault;
 use crate::tests::examples::{CROSSING, DIVERGE, INTERSECTION, ONE_LINK, TWO_LINKS};
 use crate::tests::world::{ALL_CALLS, try_run};
-use cell_build::build;
 use std::alloc::Global;
 use std::test::Fail;
 
@@ -413,8 +412,7 @@ fn bytes_that_are_no_text(rt: HostRuntime) -> Result<(), Fail> {
 
 /// How many cells a network has.
 fn count_of_cells(alloc: Global, network: &str) -> Result<usize, Fault> {
-    let raw = network_file::read(alloc, network.as_bytes())?;
-    let named = build(alloc, raw)?;
+    let named = cell_build::read(alloc, network.as_bytes())?;
     Ok(named.net().cells.len())
 }
 

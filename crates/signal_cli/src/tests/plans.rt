@@ -37,6 +37,31 @@ const PLANS: &[(&str, &str, u8, &str)] = &[
     (CROSSING, "ctm-plan 1", 4, "plan form 1\n"),
     (CROSSING, "ctm-plan 2\nend\n", 4, "plan form 1\n"),
     (CROSSING, "ctm-plan 1\n", 4, "plan form 2\n"),
+    (CROSSING, "\nctm-plan 1\n", 4, "plan form 1\n"),
+    (
+        CROSSING,
+        "ctm-plan 1\nsignal s\nctm-plan 1\n",
+        4,
+        "plan form 3\n",
+    ),
+    (
+        CROSSING,
+        "ctm-plan 1\nsignal s\nsignal 1\n",
+        4,
+        "plan run 3 start\n",
+    ),
+    (
+        CROSSING,
+        "ctm-plan 1\nsignal s\na 1 \nb 1\na 1\nend\n",
+        4,
+        "plan form 3\n",
+    ),
+    (
+        CROSSING,
+        "ctm-plan 1\nsignal s\na 1\nb 1\na 1\n",
+        4,
+        "plan form 6\n",
+    ),
     (CROSSING, "ctm-plan 1\nend\n", 4, "plan missing 0\n"),
     (CROSSING, "ctm-plan 1\na 1\n", 4, "plan form 2\n"),
     (

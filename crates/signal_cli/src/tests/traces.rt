@@ -1,6 +1,6 @@
 //! The table of a replay as a file: whole, replaced, or as far as calls did not fail; and all calls that a run makes.
 
-use crate::tests::examples::{CROSSING, DIVERGE, FIRST_PLAN, ONE_LINK};
+use crate::tests::examples::{CROSSING, DIVERGE, FIRST_PLAN, LATE_QUEUE, ONE_LINK};
 use crate::tests::world::{ALL_CALLS, Calls, run_over};
 use shelf_io::Call;
 use std::alloc::{AllocError, Global};
@@ -20,6 +20,14 @@ const CROSSING_TABLE: &str =
 /// The first hundred bytes of it.
 const CROSSING_FRONT: &str =
     "step,link,cell,units,out,delay\n0,x,0,1,1,0\n0,z,0,1,0,1\n0,m,0,0,0,0\n1,x,0,0,0,0\n1,z,0,1,1,0\n1,m,0,1,1";
+
+/// The table of the one link with its queue.
+const LINK_TABLE: &str =
+    "step,link,cell,units,out,delay\n0,a,q,0,0,0\n0,a,0,0,0,0\n0,a,1,0,0,0\n1,a,q,2,2,0\n1,a,0,0,0,0\n1,a,1,0,0,0\n2,a,q,2,2,0\n2,a,0,2,2,0\n2,a,1,0,0,0\n3,a,q,0,0,0\n3,a,0,2,2,0\n3,a,1,2,2,0\n4,a,q,0,0,0\n4,a,0,0,0,0\n4,a,1,2,2,0\n";
+
+/// The table of the queue: numbers of two digits, and a name of several letters.
+const QUEUE_TABLE: &str =
+    "step,link,cell,units,out,delay\n0,north_2,q,0,0,0\n0,north_2,0,0,0,0\n0,north_2,1,0,0,0\n1,north_2,q,0,0,0\n1,north_2,0,0,0,0\n1,north_2,1,0,0,0\n2,north_2,q,0,0,0\n2,north_2,0,0,0,0\n2,north_2,1,0,0,0\n3,north_2,q,0,0,0\n3,north_2,0,0,0,0\n3,north_2,1,0,0,0\n4,north_2,q,0,0,0\n4,north_2,0,0,0,0\n4,north_2,1,0,0,0\n5,north_2,q,0,0,0\n5,north_2,0,0,0,0\n5,north_2,1,0,0,0\n6,north_2,q,0,0,0\n6,north_2,0,0,0,0\n6,north_2,1,0,0,0\n7,north_2,q,0,0,0\n7,north_2,0,0,0,0\n7,north_2,1,0,0,0\n8,north_2,q,0,0,0\n8,north_2,0,0,0,0\n8,north_2,1,0,0,0\n9,north_2,q,12,2,10\n9,north_2,0,0,0,0\n9,north_2,1,0,0,0\n10,north_2,q,10,2,8\n10,north_2,0,2,2,0\n10,north_2,1,0,0,0\n";
 
 /// The table of the diverge.
 const DIVERGE_TABLE: &str =
@@ -62,6 +70,16 @@ const RUNS: &[Run] = &[
         "crossing 0, crossing 373, plan 0, plan 36, create out, append out 139, ",
     ),
     (
+        &["trace", "link", "none", "out"],
+        &[],
+        &[],
+        65_536,
+        0,
+        "delay 0\nleft 0\n",
+        Some(LINK_TABLE),
+        "link 0, link 84, none 0, none 15, create out, append out 211, ",
+    ),
+    (
         &["trace", "diverge", "none", "out"],
         &[],
         &[],
@@ -70,6 +88,16 @@ const RUNS: &[Run] = &[
         "delay 4\nleft 2\n",
         Some(DIVERGE_TABLE),
         "diverge 0, diverge 214, none 0, none 15, create out, append out 103, ",
+    ),
+    (
+        &["trace", "queue", "none", "out"],
+        &[],
+        &[],
+        65_536,
+        0,
+        "delay 18\nleft 12\n",
+        Some(QUEUE_TABLE),
+        "queue 0, queue 113, none 0, none 15, create out, append out 631, ",
     ),
     (
         TRACE,
@@ -338,6 +366,7 @@ fn a_run_makes_these_calls_and_no_others(rt: HostRuntime) -> Result<(), Fail> {
         ("link", ONE_LINK.as_bytes()),
         ("crossing", CROSSING.as_bytes()),
         ("diverge", DIVERGE.as_bytes()),
+        ("queue", LATE_QUEUE.as_bytes()),
         ("plan", FIRST_PLAN.as_bytes()),
         ("none", NO_SIGNAL.as_bytes()),
     ];

@@ -1,7 +1,7 @@
 -- What was found and carried out keeps the promise of the command.
 use Rattle.signal_cli.specs.Answers.{Deserves}
 use Rattle.signal_cli.specs.Commands.{outputs_of}
-use Rattle.signal_cli.specs.CommandViews.{view_of}
+use Rattle.signal_cli.specs.inner.CommandViews.{view_of}
 use Rattle.signal_cli.specs.Worlds.{world}
 use Rattle.signal_cli.proofs.KeptPromises.{keeps}
 use Rattle.signal_cli.proofs.NamedOutputs.{outputs_are_named}

@@ -1,7 +1,7 @@
 -- The network that was read, and its reply.
 use Rattle.std.proofs.lemmas.Result.{err_from_is_err_and}
 use Rattle.std.specs.Prelude.{Ok, Err}
-use Rattle.cell_build.specs.Naming.{Named}
+use Rattle.named_net.specs.Naming.{Named}
 use Rattle.signal_cli.specs.Answers.{network_in, replay_alone}
 use Rattle.signal_cli.proofs.Reading.{found_fault, found_then}
 use Rattle.signal_cli.proofs.commands.replay.replay_alone.Goals as goal

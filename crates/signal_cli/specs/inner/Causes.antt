@@ -3,34 +3,13 @@ use Rattle.std.specs.Prelude.{◌≡◌, ℕ, ◌⊎◌, List, Result, Ok, Err}
 use Rattle.shelf_io.specs.Told.{Files, ShelfState, StopsInText, read_failed, with_taken}
 use Rattle.shelf_io.specs.declared.whole_file.ReadAll.{ReadAll}
 use Rattle.shelf_io.specs.declared.whole_file.ReadAll.TheVariants as ended
-use Rattle.network_file.specs.declared.fault.NetFault.{NetFault}
-use Rattle.network_file.specs.declared.fault.NetFault.TheVariants as unread
-use Rattle.cell_build.specs.declared.fault.BuildFault.{BuildFault}
-use Rattle.cell_build.specs.declared.fault.BuildFault.TheVariants as unbuilt
-use Rattle.plan_file.specs.declared.fault.PlanFault.{PlanFault}
-use Rattle.plan_file.specs.declared.fault.PlanFault.TheVariants as unplanned
 use Rattle.signal_cli.specs.Faults.{line_of, reply_status, status_of}
 use Rattle.signal_cli.specs.Worlds.{ForFiles, ForTold, PutsAsFar, StopsInFiles, World, with_files}
 use Rattle.signal_cli.specs.declared.fault.Fault.{Fault}
-use Rattle.signal_cli.specs.declared.fault.Fault.TheVariants.{Network, Build, Plan, Read, Memory}
+use Rattle.signal_cli.specs.declared.fault.Fault.TheVariants.{Read, Memory}
 use Rattle.signal_cli.specs.declared.input.Content.{Content}
 use Rattle.signal_cli.specs.declared.input.Content.TheVariants.{TooLong}
 use Rattle.signal_cli.specs.declared.reply.Reply.{Reply}
-
--- a fault of the keys of a network file as one of the program
-abbrev pub unread_of : NetFault → Fault
-unread_of unread.Memory = Memory
-unread_of fault = Network fault
-
--- a fault of links and signals as one of the program
-abbrev pub unbuilt_of : BuildFault → Fault
-unbuilt_of unbuilt.Memory = Memory
-unbuilt_of fault = Build fault
-
--- a fault of a plan as one of the program
-abbrev pub unplanned_of : PlanFault → Fault
-unplanned_of unplanned.Memory = Memory
-unplanned_of fault = Plan fault
 
 -- what comes of a reading that ended before the whole file was read
 abbrev pub ended_as : ReadAll → Result Content Fault
