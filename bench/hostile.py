@@ -6,8 +6,8 @@ usage: bench/hostile.py [PROGRAM]
 Each file is written into a temporary folder, and the program replays it: a network alone or with its plan, or a plan for a
 small network with a signal. The heaviest networks are traced too, into a file of that folder. A line tells the status, the
 printed lines, the instructions in millions and the peak memory of the process. A file passes where the program ends within
-MILLIONS and 64 MB (256 MB for the three in WIDE) with a status from 0 to 8 and a line of the formats, and where the table
-names the answer, with this one. The last line counts.
+MILLIONS and KILOBYTES (WIDE_KILOBYTES for those in WIDE) with a status from 0 to 8 and a line of the formats, and where the
+table names the answer, with this one. The last line counts.
 
 The memory is that of a plain run, which is ended after ten seconds of work and then not counted. The instructions are those of
 a second run, under `valgrind --tool=callgrind`: the program's own, and not what the system does for it. So what else the
@@ -24,7 +24,7 @@ import measure
 
 LONGEST = 1_048_576
 MILLIONS = 2_200  # of instructions: about twice what the worst file takes, one of nothing but small tables
-KILOBYTES, WIDE_KILOBYTES = 65_536, 262_144
+KILOBYTES, WIDE_KILOBYTES = 65_536, 262_144  # of peak memory; the wide ones are those of WIDE, below
 LINES = re.compile(r'delay \d+\nleft \d+\n|words\n|network (long|toml|format|(key|range) [a-z]+( \d+)+|name [a-z]+( \d+)+'
                    r'|(unknown(link|signal|phase)|outboth|itself|twiceturn|fed|openmerge|initial|cells|demand|phase)( [a-z0-9]+)+)\n'
                    r'|plan (long|(form|signal|missing) \d+|run \d+ (start|order|green|short|surplus))\n|read fault\n|want of memory\n')
@@ -106,8 +106,8 @@ def most_turns():
 
 
 # What is tried: a name, a network, a plan or None, and the answer, or None where it is not known for sure. The files in WIDE have
-# 256 MB, since each is made of some hundred thousand tables of one key, and the library `toml` takes a kilobyte or a little
-# more for such a table, in proportion to the file, and as much where it refuses the document at its end.
+# a limit of their own, since each is made of some hundred thousand tables of one key, and the library `toml` takes a kilobyte or
+# a little more for such a table, in proportion to the file, and as much where it refuses the document at its end.
 
 WIDE = {'network: many small tables in line', 'network: many small headers', 'network: many small tables by dots'}
 
