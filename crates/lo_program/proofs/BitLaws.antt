@@ -84,7 +84,7 @@ few_letters_kept net bits valid are = few_letters (signal_of net.signals bits.si
 -- ---- what may follow a letter
 
 -- no more pass a test than there are
-fewer_filtered : {X : Type 0} (test : X → Bool) (xs : List X) → length (filter test xs) ≤ length xs
+pub fewer_filtered : {X : Type 0} (test : X → Bool) (xs : List X) → length (filter test xs) ≤ length xs
 fewer_filtered test [] = omega arith
 fewer_filtered test (x ∷ xs) = elim (cases_Bool (test x)) [ inl passes ↦ rw passes (omega (arith, fewer_filtered test xs)) | inr fails ↦ rw fails (omega (arith, fewer_filtered test xs)) ]
 

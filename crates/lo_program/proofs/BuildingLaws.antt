@@ -22,6 +22,20 @@ with_none net begun = rw (append-nil begun.columns) refl
 pub with_both : (net : Net) (begun : Begun) (some others : List Column) → with_columns net (with_columns net begun some) others ≡ with_columns net begun (some ++ others)
 with_both net begun some others = rw (map-append (col net) some others, append_assoc begun.columns (map (col net) some) (map (col net) others)) refl
 
+-- so many columns are there
+pub length-with : (net : Net) (begun before : Begun) (some : List Column) → before ≡ with_columns net begun some → length before.columns ≡ length begun.columns + length some
+length-with net begun before some has = omega (arith, ap (λ (b : Begun). length b.columns) has, length-append begun.columns (map (col net) some), length-map some (col net))
+
+-- some columns were added, and then others
+pub both_added : (net : Net) (begun between after : Begun) (some others : List Column) →
+    between ≡ with_columns net begun some → after ≡ with_columns net between others → after ≡ with_columns net begun (some ++ others)
+both_added net begun between after some others first second = second ∙ ap (λ (b : Begun). with_columns net b others) first ∙ with_both net begun some others
+
+-- the others fit where both do
+pub others_fit : (net : Net) (begun between : Begun) (most : ℕ) (some others : List Column) →
+    between ≡ with_columns net begun some → length begun.columns + length (some ++ others) ≤ most → length between.columns + length others ≤ most
+others_fit net begun between most some others first room = omega (arith, length-with net begun between some first, length-append some others, room)
+
 -- no part of a join
 pub parts_begin : (net : Net) (begun : Begun) (parts : ℕ → List Column) → begun ≡ with_columns net begun (join_below 0 parts)
 parts_begin net begun parts = with_none net begun ∙ ap (with_columns net begun) (sym (join_below-zero parts))
@@ -30,7 +44,7 @@ parts_begin net begun parts = with_none net begun ∙ ap (with_columns net begun
 pub parts_more : (net : Net) (begun before after : Begun) (n : ℕ) (parts : ℕ → List Column) →
     before ≡ with_columns net begun (join_below n parts) → after ≡ with_columns net before (parts n) → after ≡ with_columns net begun (join_below (n + 1) parts)
 parts_more net begun before after n parts has more =
-    more ∙ ap (λ (b : Begun). with_columns net b (parts n)) has ∙ with_both net begun (join_below n parts) (parts n) ∙ ap (with_columns net begun) (sym (join_below-suc n parts))
+    both_added net begun before after (join_below n parts) (parts n) has more ∙ ap (with_columns net begun) (sym (join_below-suc n parts))
 
 -- a part fits where the whole does
 part_fits : (n k : ℕ) (parts : ℕ → List Column) → k < n → length (join_below k parts) + length (parts k) ≤ length (join_below n parts)
@@ -45,7 +59,7 @@ part_fits (suc n) k parts inside =
 pub parts_fit : (net : Net) (begun before : Begun) (n k most : ℕ) (parts : ℕ → List Column) →
     before ≡ with_columns net begun (join_below k parts) → k < n → length begun.columns + length (join_below n parts) ≤ most → length before.columns + length (parts k) ≤ most
 parts_fit net begun before n k most parts has inside room =
-    omega (arith, ap (λ (b : Begun). length b.columns) has, length-append begun.columns (map (col net) (join_below k parts)), length-map (join_below k parts) (col net), part_fits n k parts inside, room)
+    omega (arith, length-with net begun before (join_below k parts) has, part_fits n k parts inside, room)
 
 -- all parts
 pub parts_end : (net : Net) (begun before : Begun) (n k : ℕ) (parts : ℕ → List Column) → before ≡ with_columns net begun (join_below k parts) → k ≡ n → before ≡ with_columns net begun (join_below n parts)
@@ -75,9 +89,9 @@ table_begins net begun f = with_none net begun ∙ ap (with_columns net begun) (
 pub table_grows : (net : Net) (begun before after : Begun) (n : ℕ) (f : ℕ → Column) →
     before ≡ with_columns net begun (table_of n f) → after ≡ with_columns net before (f n ∷ []) → after ≡ with_columns net begun (table_of (n + 1) f)
 table_grows net begun before after n f has more =
-    more ∙ ap (λ (b : Begun). with_columns net b (f n ∷ [])) has ∙ with_both net begun (table_of n f) (f n ∷ []) ∙ ap (with_columns net begun) (sym (table_of-suc n f))
+    both_added net begun before after (table_of n f) (f n ∷ []) has more ∙ ap (with_columns net begun) (sym (table_of-suc n f))
 
 -- so many columns are there
 pub length-table : (net : Net) (begun before : Begun) (n : ℕ) (f : ℕ → Column) → before ≡ with_columns net begun (table_of n f) → length before.columns ≡ length begun.columns + n
 length-table net begun before n f has =
-    omega (arith, ap (λ (b : Begun). length b.columns) has, length-append begun.columns (map (col net) (table_of n f)), length-map (table_of n f) (col net), length-table_of n f)
+    omega (arith, length-with net begun before (table_of n f) has, length-table_of n f)

@@ -66,7 +66,7 @@ few_terms Exit split = omega arith
 few_terms (To b) split = omega arith
 few_terms (Turns branches) split = omega (arith, split.0.1)
 
-few_of_room : (cells : List Cell) (i : ℕ) → after_room cells i ≤ 3
+pub few_of_room : (cells : List Cell) (i : ℕ) → after_room cells i ≤ 3
 few_of_room cells i = elim (cases_Bool (has_room cells i)) [ inl has ↦ rw has (omega arith) | inr none ↦ rw none (omega arith) ]
 
 pub few_of_cell : (net : Net) (t i : ℕ) → IsValid net → i < length net.cells → length (columns_of_cell net.cells t i) ≤ 20

@@ -23,7 +23,7 @@ use Rattle.program_model.specs.Sparse.{by_number, sparse}
 use Rattle.program_model.proofs.ColumnLaws.{Each}
 use Rattle.program_model.proofs.RowColumns.{RowNames}
 use Rattle.program_model.proofs.PlaceLaws.{column_stands}
-use Rattle.lo_program.specs.inner.Adding.{Adds, Fits}
+use Rattle.lo_program.specs.inner.Adding.{Adds, Below, Fits, RowBelow}
 
 -- the builder with more rows
 abbrev with_rows : Begun → List Row → Begun
@@ -65,23 +65,25 @@ each_second P (x ∷ xs) ys each = each_second P xs ys each.1
 -- the first of two lists of rows
 pub fits_first : (net : Net) (a : Begun) (xs ys : List (SumRow Column)) → Fits net a (xs ++ ys) → Fits net a xs
 fits_first net a xs ys fits = record {
-  all_columns = fits.all_columns;
   few = omega (arith, fits.few, length-append xs ys);
-  named = each_first (RowNames net) xs ys fits.named;
+  there = each_first (RowBelow net (length a.columns)) xs ys fits.there;
 }
 
 -- as many rows as are mapped
 length_held : (net : Net) (xs : List (SumRow Column)) → length (map (sparse (number_of net)) xs) ≡ length xs
 length_held net xs = length-map xs (sparse (number_of net))
 
+-- rows bring no column
+pub same_columns : (net : Net) (a b : Begun) (xs : List (SumRow Column)) → Adds net a b xs → length b.columns ≡ length a.columns
+same_columns net a b xs added = ap (λ (program : Begun). length program.columns) added.all
+
 -- the second, behind the first
 pub fits_second : (net : Net) (a b : Begun) (xs ys : List (SumRow Column)) → Fits net a (xs ++ ys) → Adds net a b xs → Fits net b ys
 fits_second net a b xs ys fits added =
     let rows : length b.rows ≡ length (a.rows ++ map (sparse (number_of net)) xs) = ap (λ (program : Begun). length program.rows) added.all in
     record {
-      all_columns = ap (λ (program : Begun). length program.columns) added.all ∙ fits.all_columns;
       few = omega (arith, fits.few, length-append xs ys, rows, length-append a.rows (map (sparse (number_of net)) xs), length_held net xs);
-      named = each_second (RowNames net) xs ys fits.named;
+      there = subst (λ (n : ℕ). Each (RowBelow net n) ys) (sym (same_columns net a b xs added)) (each_second (RowBelow net (length a.columns)) xs ys fits.there);
     }
 
 -- one part, behind those before it
@@ -96,13 +98,26 @@ fits_part net a b (suc n) k parts fits inside added =
 
 -- ---- one row
 
+-- terms of columns of the network name the first columns, where these are all
+pub names_below : (net : Net) (count : ℕ) (terms : List (Column × ℤ)) → count ≡ length (columns net) → Each (λ (term : Column × ℤ). IsColumn net term.0) terms → Below net count terms
+names_below net count [] all each = tt
+names_below net count (term ∷ terms) all each = (omega (arith, all, (column_stands net term.0 (Flow 0 0) each.0).0), names_below net count terms all each.1)
+
+-- and so do rows
+pub rows_below : (net : Net) (count : ℕ) (rows : List (SumRow Column)) → count ≡ length (columns net) → Each (RowNames net) rows → Each (RowBelow net count) rows
+rows_below net count [] all each = tt
+rows_below net count (row ∷ rows) all each = (names_below net count row.sum.terms all each.0, rows_below net count rows all each.1)
+
+-- the numbers of terms that name the first columns
+pub below_there : (net : Net) (count : ℕ) (terms : List (Column × ℤ)) → Below net count terms → All (λ (term : ℕ × ℤ). term.0 < count) (by_number (number_of net) terms)
+below_there net count [] each = All-nil (λ (term : ℕ × ℤ). term.0 < count)
+below_there net count (term ∷ terms) each =
+    All-cons (λ (other : ℕ × ℤ). other.0 < count) (number_of net term.0, term.1) (by_number (number_of net) terms) each.0 (below_there net count terms each.1)
+
 -- the numbers of a row's columns are those of columns that are there
 pub columns_there : (net : Net) (count : ℕ) (terms : List (Column × ℤ)) → count ≡ length (columns net) → Each (λ (term : Column × ℤ). IsColumn net term.0) terms →
     All (λ (term : ℕ × ℤ). term.0 < count) (by_number (number_of net) terms)
-columns_there net count [] all each = All-nil (λ (term : ℕ × ℤ). term.0 < count)
-columns_there net count (term ∷ terms) all each =
-    All-cons (λ (other : ℕ × ℤ). other.0 < count) (number_of net term.0, term.1) (by_number (number_of net) terms)
-    (omega (arith, all, (column_stands net term.0 (Flow 0 0) each.0).0)) (columns_there net count terms all each.1)
+columns_there net count terms all each = below_there net count terms (names_below net count terms all each)
 
 -- the row of such terms is lawful
 pub is_row : (count : ℕ) (equal : Bool) (rhs : ℤ) (terms : List (ℕ × ℤ)) → All (λ (term : ℕ × ℤ). term.0 < count) terms → weight terms ≤ MAX_NUMBER → length terms ≤ MAX_TERMS → IsSmall rhs →
@@ -123,7 +138,7 @@ pub row_there : (net : Net) (program : Begun) (row : SumRow Column) (terms : Lis
     All (λ (term : ℕ × ℤ). term.0 < length program.columns) terms
 row_there net program row terms fits same =
     subst (λ (others : List (ℕ × ℤ)). All (λ (term : ℕ × ℤ). term.0 < length program.columns) others) same
-    (columns_there net (length program.columns) row.sum.terms fits.all_columns fits.named.0)
+    (below_there net (length program.columns) row.sum.terms fits.there.0)
 
 -- there is room for a row that fits
 pub row_room : (net : Net) (program : Begun) (row : SumRow Column) → Fits net program (row ∷ []) → length program.rows < MAX_ROWS
@@ -140,4 +155,4 @@ fits_mapped net a b f xs k d fits inside added =
     ap (map f) (around xs k d inside) ∙ map-append f (take k xs) (get_or xs k d ∷ drop (k + 1) xs) in
     let behind : Fits net b (f (get_or xs k d) ∷ map f (drop (k + 1) xs)) =
     fits_second net a b (map f (take k xs)) (f (get_or xs k d) ∷ map f (drop (k + 1) xs)) (subst (λ (rows : List (SumRow Column)). Fits net a rows) split fits) added in
-    record { all_columns = behind.all_columns; few = omega (arith, behind.few); named = (behind.named.0, tt) }
+    record { few = omega (arith, behind.few); there = (behind.there.0, tt) }

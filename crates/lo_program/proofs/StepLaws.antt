@@ -7,14 +7,14 @@ use Rattle.ct_base.specs.declared.plan.Letter.TheVariants.{Clear, Green}
 use Rattle.ct_base.specs.declared.signal.Signal.{Signal}
 use Rattle.sparse_program.specs.Program.{Begun}
 use Rattle.sparse_program.specs.declared.limits.TheConstants.{MAX_ROWS}
-use Rattle.program_model.specs.Columns.{Column, columns}
-use Rattle.program_model.specs.Numbers.{number_of}
+use Rattle.program_model.specs.Columns.{Column}
+use Rattle.program_model.specs.Numbers.{number_of, plan_count}
 use Rattle.program_model.specs.Rows.{SumRow}
 use Rattle.program_model.specs.RuleRows.{clear_end_rows, end_rows, follow_rows, one_letter_row, rule_rows, rule_rows_at, stay_rows}
 use Rattle.program_model.specs.Sparse.{sparse}
-use Rattle.program_model.proofs.RowColumns.{rule_rows_name}
 use Rattle.lo_program.specs.inner.Adding.{Adds, Fits}
 use Rattle.lo_program.proofs.RowLaws.{fits_first}
+use Rattle.lo_program.proofs.RuleBits.{rule_rows_below}
 
 abbrev pub Rows : Type 0
 Rows = List (SumRow Column)
@@ -63,10 +63,10 @@ fits_one net a f g h i j fits = fits_first net a f g (fits_two net a f g h i j f
 abbrev pub rows_of_signal : Net → ℕ → Rows
 rows_of_signal net s = join_below net.steps (rule_rows_at (signal_of net.signals s) net.steps s)
 
-pub rules_fit : (net : Net) (program : Begun) → length program.columns ≡ length (columns net) → length program.rows + length (rule_rows net) ≤ MAX_ROWS →
+pub rules_fit : (net : Net) (program : Begun) → plan_count net ≤ length program.columns → length program.rows + length (rule_rows net) ≤ MAX_ROWS →
     Fits net program (join_below (length net.signals) (rows_of_signal net))
 unfolding rule_rows
-rules_fit net program all few = record { all_columns = all; few = few; named = rule_rows_name net }
+rules_fit net program plan few = record { few = few; there = rule_rows_below net (length program.columns) plan }
 
 pub rules_added : (net : Net) (a b : Begun) (n : ℕ) → n ≡ length net.signals → Adds net a b (join_below n (rows_of_signal net)) →
     b ≡ record a { rows = a.rows ++ map (sparse (number_of net)) (rule_rows net) }

@@ -6,3 +6,5 @@ pub mod Inserting
 pub mod Counts
 pub mod Points
 pub mod Flows
+pub mod Moves
+pub mod Floors

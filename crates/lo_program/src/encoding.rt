@@ -9,8 +9,6 @@ ghost use Rattle.traffic_model.specs.Runs.{IsAdmissiblePlan};
 mod bits;
 mod cells;
 mod terms;
-#[cfg(test)]
-mod tests;
 
 use crate::layout::layout_of;
 use bits::push_bits;

@@ -7,10 +7,11 @@ ghost use Rattle.lo_program.specs.inner.Layout.{IsLayout};
 ghost use Rattle.program_model.specs.Columns.{has_room};
 ghost use Rattle.program_model.specs.Numbers.{bits_before, bits_of_step, first_column};
 
-mod making;
+pub(crate) mod making;
+pub(crate) mod numbers;
 
 use ct_base::{Listed, Net};
-pub(crate) use making::layout_of;
+pub(crate) use making::{layout_of, term_count};
 
 /// How many columns stand before those of a signal or of a cell, which is worked out once.
 #[derive(Drop)]

@@ -8,8 +8,7 @@ ghost use Rattle.listed.specs.Below.{join_below};
 ghost use Rattle.lo_program.specs.inner.Adding.{Adds, Fits};
 ghost use Rattle.lo_program.specs.inner.Bits.{AreBits};
 ghost use Rattle.lo_program.specs.inner.Layout.{IsLayout};
-ghost use Rattle.program_model.specs.Columns.{columns};
-ghost use Rattle.program_model.specs.Numbers.{number_of};
+ghost use Rattle.program_model.specs.Numbers.{number_of, plan_count};
 ghost use Rattle.program_model.specs.RuleRows.{clear_end_rows, end_rows, rule_rows, rule_rows_at, stay_rows};
 ghost use Rattle.program_model.specs.Sparse.{sparse};
 ghost use Rattle.sparse_program.specs.declared.limits.TheConstants.{MAX_ROWS};
@@ -18,18 +17,29 @@ pub(crate) mod bits;
 mod lasting;
 mod letters;
 
-use crate::layout::Layout;
+use crate::layout::{Layout, layout_of};
 use bits::{Bits, bits_of};
 use ct_base::{Letter, Net, Phase};
 use lasting::{add_clear_end_rows, add_end_rows, add_stay_rows};
 use letters::{add_follow_rows, add_one_letter_row};
 use sparse_program::{Builder, Memory};
 
+/// Adds the rule rows to a builder that holds the columns of the plan as its first. They name no other columns.
+pub fn rule_rows(net: &Net, into: &mut Builder) -> Result<(), Memory>
+    requires valid { IsValid net.now }
+    requires plan { plan_count net.now ≤ length into.old.columns }
+    requires few { length into.old.rows + length (rule_rows net.now) ≤ MAX_ROWS }
+    ensures { OnOk result (into.new ≡ record into.old { rows = into.old.rows ++ map (sparse (number_of net.now)) (rule_rows net.now) }) }
+{
+    let layout = layout_of(into.alloc(), net)?;
+    add_rule_rows(into, net, &layout)
+}
+
 /// Adds the rule rows of a network: signal by signal, and of each step by step.
 pub(crate) fn add_rule_rows(builder: &mut Builder, net: &Net, layout: &Layout) -> Result<(), Memory>
     requires valid { IsValid net.now }
     requires layout { IsLayout net.now layout.now }
-    requires all_columns { length builder.old.columns ≡ length (columns net.now) }
+    requires plan { plan_count net.now ≤ length builder.old.columns }
     requires few { length builder.old.rows + length (rule_rows net.now) ≤ MAX_ROWS }
     ensures { OnOk result (builder.new ≡ record builder.old { rows = builder.old.rows ++ map (sparse (number_of net.now)) (rule_rows net.now) }) }
 {

@@ -105,7 +105,7 @@ split_rows_name net t i (Turns branches) valid place is =
       branches_rows_name net t i 0 branches place (branches_are net t i branches valid place is),
     )
 
-further_terms_name : (net : Net) (t i : ℕ) (out : Out) → IsValid net → IsPlace net t i → (cell_of net.cells i).out ≡ out → Each (λ (term : Term Column). Names net term.of) (further_terms net.cells t i out)
+pub further_terms_name : (net : Net) (t i : ℕ) (out : Out) → IsValid net → IsPlace net t i → (cell_of net.cells i).out ≡ out → Each (λ (term : Term Column). Names net term.of) (further_terms net.cells t i out)
 further_terms_name net t i Exit valid place is = ((place, tt), tt)
 further_terms_name net t i (To b) valid place is =
     let led : IsLedInto net b = to_is_led_into net i b valid place.inside is in
@@ -129,7 +129,7 @@ length-branch_terms : (net : Net) (t i m : ℕ) (branches : List (ℕ × ℕ)) �
 length-branch_terms net t i m [] = refl
 length-branch_terms net t i m (branch ∷ branches) = ap suc (length-branch_terms net t i (m + 1) branches)
 
-length-further_terms : (net : Net) (t i : ℕ) (out : Out) → length (further_terms net.cells t i out) + 1 ≡ term_count out
+pub length-further_terms : (net : Net) (t i : ℕ) (out : Out) → length (further_terms net.cells t i out) + 1 ≡ term_count out
 length-further_terms net t i Exit = refl
 length-further_terms net t i (To b) = refl
 length-further_terms net t i (Turns branches) = omega (arith, length-branch_terms net t i 0 branches)

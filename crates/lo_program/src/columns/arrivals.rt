@@ -1,13 +1,12 @@
 //! What has arrived at the cells before a step, kept from step to step.
 
-ghost use Rattle.std.specs.Prelude.{◌≡◌, ◌+◌, ◌≤◌, ◌<◌, IfOk, length};
+ghost use Rattle.std.specs.Prelude.{◌≡◌, ◌+◌, ◌<◌, IfOk, length};
 ghost use Rattle.listed.specs.Below.{table_of};
-ghost use Rattle.ct_base.specs.Access.{cell_of};
 ghost use Rattle.ct_base.specs.Validity.{IsValid};
 ghost use Rattle.lo_program.specs.inner.Columns.{arrived_before};
 ghost use Rattle.traffic_model.specs.Occupancy.{demand_at};
 
-use ct_base::{Listed, Memory, Net};
+use ct_base::{Cell, Listed, Memory, Net};
 use std::alloc::Global;
 
 /// What has arrived at each cell before step 0.
@@ -36,18 +35,16 @@ pub(crate) fn more_arrived(
 {
     let mut more = Listed::new(alloc);
     for i in 0..net.cells.len() {
-        more.push(arrived[i] + demand_at(net, i, t))?;
+        more.push(arrived[i] + demand_at(net.cell(i), t))?;
     }
     Ok(more)
 }
 
-/// The units that arrive at cell i at the end of step t.
-fn demand_at(net: &Net, i: usize, t: u32) -> u32
-    requires valid { IsValid net.now }
-    requires inside { i < length net.now.cells }
-    ensures { result ≡ demand_at (cell_of net.now.cells i) t }
+/// The units that arrive at a cell at the end of a step.
+pub(crate) fn demand_at(cell: &Cell, t: u32) -> u32
+    ensures { result ≡ demand_at cell.now t }
 {
-    match net.cell(i).demand.as_slice().get(t as usize) {
+    match cell.demand.as_slice().get(t as usize) {
         Some(units) => *units,
         None => 0,
     }

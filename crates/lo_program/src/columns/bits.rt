@@ -1,16 +1,30 @@
 //! The plan columns: a bit for each letter of each signal, step by step.
 
-ghost use Rattle.std.specs.Prelude.{◌≡◌, ◌+◌, ◌≤◌, ◌<◌, [], ◌∷◌, ◌++◌, ℕ, length, map, OnOk};
+ghost use Rattle.std.specs.Prelude.{◌≡◌, ◌+◌, ◌≤◌, ◌<◌, [], ◌∷◌, ◌++◌, ℕ, length, map, IfOk, OnOk};
 ghost use Rattle.ct_base.specs.Access.{phase_of, signal_of};
 ghost use Rattle.ct_base.specs.Validity.{IsValid};
-ghost use Rattle.ct_base.specs.declared.plan.Letter.TheVariants.{Green, Clear};
 ghost use Rattle.lo_program.specs.inner.Columns.{clear_col, green_col, with_columns};
 ghost use Rattle.program_model.specs.Columns.{Column, Bit, bits_at, letters_by, letters_of, plan_columns};
+ghost use Rattle.program_model.specs.Numbers.{plan_count};
+ghost use Rattle.program_model.specs.Points.{col};
 ghost use Rattle.sparse_program.specs.declared.limits.TheConstants.{MAX_COLUMNS};
 
 use super::add;
+use crate::layout::layout_of;
 use ct_base::{Memory, Net};
 use sparse_program::Builder;
+
+/// Adds the columns of the plan and answers how many they are.
+pub fn plan_cols(net: &Net, into: &mut Builder) -> Result<u32, Memory>
+    requires valid { IsValid net.now }
+    requires none { into.old.columns ≡ [] }
+    ensures count { IfOk result (λ count. count ≡ plan_count net.now) }
+    ensures columns { OnOk result (into.new ≡ record into.old { columns = map (col net.now) (plan_columns net.now) }) }
+{
+    let layout = layout_of(into.alloc(), net)?;
+    add_bits(into, net)?;
+    Ok(layout.plan)
+}
 
 /// Adds the plan columns.
 pub(crate) fn add_bits(builder: &mut Builder, net: &Net) -> Result<(), Memory>

@@ -1,16 +1,16 @@
 //! The greatest values of the columns of a cell.
 
-ghost use Rattle.std.specs.Prelude.{◌≡◌, ◌+◌, ◌*◌, ◌/◌, ◌≤◌, ◌<◌, ℕ, All, fold, length, min};
+ghost use Rattle.std.specs.Prelude.{◌≡◌, ◌/◌, ◌≤◌, ◌<◌, ℕ, All, length};
 ghost use Rattle.listed.specs.Below.{sum_below};
-ghost use Rattle.ct_base.specs.Access.{cell_of, parcel, targets};
-ghost use Rattle.ct_base.specs.Validity.{IsBetween, IsSplit, IsValid};
+ghost use Rattle.ct_base.specs.Access.{parcel, targets};
+ghost use Rattle.ct_base.specs.Validity.{IsBetween, IsSplit};
 ghost use Rattle.cell_replay.specs.Asked.{AreBranches};
 ghost use Rattle.lo_program.specs.inner.Columns.{cap_up_to};
 ghost use Rattle.program_model.specs.Values.{least_units, most_room, most_units};
 ghost use Rattle.traffic_model.specs.Flow.{cap_of, units_of_flow};
 ghost use Rattle.traffic_model.specs.Occupancy.{demand_at};
 
-use ct_base::{Cell, Kind, Net, Out};
+use ct_base::{Cell, Kind, Out};
 
 /// The least units that a cell may hold at step t.
 pub(crate) fn least_units(cell: &Cell, t: u32) -> u32

@@ -1,20 +1,46 @@
 //! The columns of one cell at one step: its units, its room, the parcels of a diverge, its flow and its switches.
 
-ghost use Rattle.std.specs.Prelude.{◌≡◌, ◌+◌, ◌*◌, ◌/◌, ◌≤◌, ◌<◌, [], ◌∷◌, ◌++◌, ℕ, OnOk, length, true, slice_index_or};
+ghost use Rattle.std.specs.Prelude.{◌≡◌, ◌+◌, ◌≤◌, ◌<◌, [], ◌∷◌, OnOk, if◌then◌else◌, length};
 ghost use Rattle.listed.specs.Below.{sum_below, table_of};
 ghost use Rattle.ct_base.specs.Access.{cell_of};
-ghost use Rattle.ct_base.specs.Validity.{IsBetween, IsValid};
+ghost use Rattle.ct_base.specs.Validity.{IsValid};
 ghost use Rattle.lo_program.specs.inner.Columns.{with_columns};
-ghost use Rattle.program_model.specs.Columns.{BranchRest, BranchRoom, Flow, Parcels, ParcelsRest, Room, RoomRest, Switch, Units, has_room};
-ghost use Rattle.program_model.specs.Points.{col};
-ghost use Rattle.program_model.specs.Values.{branch_of};
+ghost use Rattle.lo_program.specs.inner.Layout.{IsLayout};
+ghost use Rattle.program_model.specs.Columns.{Flow, Room, RoomRest, Switch, Units, columns_of_cell, has_room};
 ghost use Rattle.sparse_program.specs.declared.limits.TheConstants.{MAX_COLUMNS};
 ghost use Rattle.traffic_model.specs.Occupancy.{demand_at};
 
 use super::add;
 use super::bounds::{cap_of, least_units, most_room, most_units, units_of_flow};
+use super::split::add_split;
+use crate::layout::{Layout, has_room, term_count};
 use ct_base::{Memory, Net};
 use sparse_program::Builder;
+
+/// Adds the columns of cell i at step t, where so many units have arrived at it before.
+pub(super) fn add_columns_of_cell(
+    builder: &mut Builder,
+    net: &Net,
+    layout: &Layout,
+    t: u32,
+    i: usize,
+    arrived: u32,
+) -> Result<(), Memory>
+    requires valid { IsValid net.now }
+    requires layout { IsLayout net.now layout.now }
+    requires before { t < net.now.steps }
+    requires inside { i < length net.now.cells }
+    requires arrived { arrived ≡ sum_below t (demand_at (cell_of net.now.cells i)) }
+    requires room { length builder.old.columns + length (columns_of_cell net.now.cells t i) ≤ MAX_COLUMNS }
+    ensures { OnOk result (builder.new ≡ with_columns net.now builder.old (columns_of_cell net.now.cells t i)) }
+{
+    add_units(builder, net, t, i, arrived)?;
+    add_room(builder, net, layout, t, i)?;
+    add_split(builder, net, t, i, arrived)?;
+    add_flow(builder, net, t, i)?;
+    add_switches(builder, net, t, i, term_count(&net.cell(i).out))?;
+    Ok(())
+}
 
 /// Adds the units of cell i at step t, where so many have arrived at it before.
 fn add_units(builder: &mut Builder, net: &Net, t: u32, i: usize, arrived: u32) -> Result<(), Memory>
@@ -34,8 +60,29 @@ fn add_units(builder: &mut Builder, net: &Net, t: u32, i: usize, arrived: u32) -
     )
 }
 
+/// Adds the room of cell i at step t where it is a column.
+fn add_room(
+    builder: &mut Builder,
+    net: &Net,
+    layout: &Layout,
+    t: u32,
+    i: usize,
+) -> Result<(), Memory>
+    requires valid { IsValid net.now }
+    requires layout { IsLayout net.now layout.now }
+    requires inside { i < length net.now.cells }
+    requires room { length builder.old.columns + length (if has_room net.now.cells i then Room t i ∷ RoomRest t i ∷ [] else []) ≤ MAX_COLUMNS }
+    ensures { OnOk result (builder.new ≡ with_columns net.now builder.old (if has_room net.now.cells i then Room t i ∷ RoomRest t i ∷ [] else [])) }
+{
+    if has_room(net, layout, i as u32) {
+        add_room_and_rest(builder, net, t, i)
+    } else {
+        Ok(())
+    }
+}
+
 /// Adds the room of cell i at step t, and the rest of its division.
-fn add_room(builder: &mut Builder, net: &Net, t: u32, i: usize) -> Result<(), Memory>
+fn add_room_and_rest(builder: &mut Builder, net: &Net, t: u32, i: usize) -> Result<(), Memory>
     requires valid { IsValid net.now }
     requires inside { i < length net.now.cells }
     requires room { length builder.old.columns + 2 ≤ MAX_COLUMNS }
@@ -44,49 +91,6 @@ fn add_room(builder: &mut Builder, net: &Net, t: u32, i: usize) -> Result<(), Me
     let cell = net.cell(i);
     add(builder, 0, most_room(cell), 0)?;
     add(builder, 0, cell.wave_q - 1, 0)
-}
-
-/// Adds the parcels of cell i at step t, where so many units have arrived at it before, and the units beside them.
-fn add_parcels(
-    builder: &mut Builder,
-    net: &Net,
-    t: u32,
-    i: usize,
-    arrived: u32,
-) -> Result<(), Memory>
-    requires valid { IsValid net.now }
-    requires before { t < net.now.steps }
-    requires inside { i < length net.now.cells }
-    requires arrived { arrived ≡ sum_below t (demand_at (cell_of net.now.cells i)) }
-    requires room { length builder.old.columns + 2 ≤ MAX_COLUMNS }
-    ensures { OnOk result (builder.new ≡ with_columns net.now builder.old (Parcels t i ∷ ParcelsRest t i ∷ [])) }
-{
-    let cell = net.cell(i);
-    let units = units_of_flow(&cell.out);
-    add(builder, 0, most_units(cell, arrived, t) / units, 0)?;
-    add(builder, 0, units - 1, 0)
-}
-
-/// Adds the parcels that branch k of cell i has room for at step t, and the units of room beside them.
-fn add_branch(
-    builder: &mut Builder,
-    net: &Net,
-    t: u32,
-    i: usize,
-    k: usize,
-    branch: (u32, u32),
-) -> Result<(), Memory>
-    requires valid { IsValid net.now }
-    requires there { branch.0 < length net.now.cells }
-    requires units { IsBetween 1 100 branch.1 }
-    requires branch { branch_of (cell_of net.now.cells i).out k ≡ branch }
-    requires room { length builder.old.columns + 2 ≤ MAX_COLUMNS }
-    ensures { OnOk result (builder.new ≡ with_columns net.now builder.old (BranchRoom t i k ∷ BranchRest t i k ∷ [])) }
-{
-    let (target, units) = branch;
-    let most = most_room(net.cell(target as usize));
-    add(builder, 0, most / units, 0)?;
-    add(builder, 0, units - 1, 0)
 }
 
 /// Adds the flow of cell i at step t. What leaves the cell gives its cost back.

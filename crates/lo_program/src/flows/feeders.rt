@@ -6,12 +6,11 @@ ghost use Rattle.ct_base.specs.Access.{cell_of};
 ghost use Rattle.ct_base.specs.Validity.{IsSplit, IsValid};
 ghost use Rattle.traffic_model.specs.Flow.{parcel_to, share};
 ghost use Rattle.cell_replay.specs.Asked.{AreBranches};
-ghost use Rattle.program_model.specs.Columns.{term_count};
 ghost use Rattle.program_model.specs.Numbers.{cells_before};
 ghost use Rattle.lo_program.specs.inner.Flows.{IsMoves, brings, feeders_of, flow_place};
 ghost use Rattle.lo_program.specs.inner.Layout.{IsLayout};
 
-use crate::layout::Layout;
+use crate::layout::{Layout, term_count};
 use ct_base::{Listed, Memory, Net, Out};
 use std::alloc::Global;
 
@@ -76,18 +75,6 @@ fn columns_through(net: &Net, layout: &Layout, i: usize) -> u32
         return before[i + 1];
     }
     layout.cells_of_step
-}
-
-/// How many terms a move has.
-pub(crate) fn term_count(out: &Out) -> u32
-    requires { IsSplit out.now }
-    ensures { result ≡ term_count out.now }
-{
-    match out {
-        Out::Exit => 2,
-        Out::To(_) => 3,
-        Out::Turns(turns) => turns.len() as u32 + 2,
-    }
 }
 
 /// The moves into each cell.

@@ -1,12 +1,12 @@
 //! How the layout of a network is worked out: the columns before each signal and each cell are added up in one pass.
 
-ghost use Rattle.std.specs.Prelude.{◌≡◌, ◌==◌, ◌+◌, ◌*◌, ◌<◌, ◌≤◌, ℕ, if◌then◌else◌, IfOk, length, [], ◌∷◌};
+ghost use Rattle.std.specs.Prelude.{◌≡◌, ◌==◌, ◌+◌, ◌*◌, ◌<◌, ◌≤◌, ℕ, nat_lt, if◌then◌else◌, IfOk, length, [], ◌∷◌};
 ghost use Rattle.std.specs.List.{list_any};
 ghost use Rattle.listed.specs.Below.{table_of};
 ghost use Rattle.ct_base.specs.Access.{cell_of, phase_of, targets};
 ghost use Rattle.ct_base.specs.Validity.{IsSignal, IsSplit, IsValid};
 ghost use Rattle.lo_program.specs.inner.Layout.{IsLayout};
-ghost use Rattle.program_model.specs.Columns.{columns_of_branch, columns_of_branches, columns_of_cell, columns_of_split, has_room, is_led_into, letters_by, letters_of, term_count};
+ghost use Rattle.program_model.specs.Columns.{columns_of_branches, columns_of_cell, columns_of_split, has_room, is_led_into, letters_by, letters_of, term_count};
 ghost use Rattle.program_model.specs.Numbers.{bits_before, bits_of_step, cells_before};
 
 use super::Layout;
@@ -44,13 +44,13 @@ fn rooms_of(alloc: Global, cells: &[Cell]) -> Result<Listed<bool>, Memory>
 {
     let mut rooms = Listed::new(alloc);
     for i in 0..cells.len() {
-        rooms.push(has_room(cells, i))?;
+        rooms.push(is_room_column(cells, i))?;
     }
     Ok(rooms)
 }
 
 /// Whether the units that cell i has room for are a column.
-fn has_room(cells: &[Cell], i: usize) -> bool
+pub(crate) fn is_room_column(cells: &[Cell], i: usize) -> bool
     requires inside { i < length cells.now }
     ensures { result ≡ has_room cells.now i }
 {
@@ -155,11 +155,11 @@ fn columns_of_cell(net: &Net, i: usize, room: bool) -> u32
     ensures few { result ≤ 20 }
 {
     let out = &net.cell(i).out;
-    columns_before_split(room) + columns_of_split(out) + 1 + term_count(out)
+    after_room(room) + columns_of_split(out) + 1 + term_count(out)
 }
 
-/// How many columns a cell has for its units and its room.
-fn columns_before_split(room: bool) -> u32
+/// How many columns of a cell come before those of its split: its units, and its room where that is a column.
+pub(crate) fn after_room(room: bool) -> u32
     ensures value { result ≡ (if room then 3 else 1) }
     ensures few { result ≤ 3 }
 {
@@ -167,7 +167,7 @@ fn columns_before_split(room: bool) -> u32
 }
 
 /// How many columns a diverge has for its parcels and branches; another move has none.
-fn columns_of_split(out: &Out) -> u32
+pub(crate) fn columns_of_split(out: &Out) -> u32
     requires { IsSplit out.now }
     ensures value { result ≡ length (columns_of_split 0 0 out.now) }
     ensures few { result ≤ 10 }
@@ -187,16 +187,15 @@ fn columns_of_branches(k: u32, turns: &[(u32, u32)]) -> u32
 {
     match turns {
         [] => 0,
-        [turn, more @ ..] => columns_of_branch(k, turn.1) + columns_of_branches(k + 1, more),
+        [turn, more @ ..] => columns_of_branch(turn.1) + columns_of_branches(k + 1, more),
     }
 }
 
 /// How many columns a branch has whose parcel has so many units.
-fn columns_of_branch(k: u32, units: u32) -> u32
-    ensures value { result ≡ length (columns_of_branch 0 0 k units) }
+pub(crate) fn columns_of_branch(units: u32) -> u32
+    ensures value { result ≡ (if nat_lt 1 units then 2 else 0) }
     ensures few { result ≤ 2 }
 {
-    let _ = k;
     if 1 < units { 2 } else { 0 }
 }
 

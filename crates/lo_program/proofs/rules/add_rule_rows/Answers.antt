@@ -9,7 +9,7 @@ loop-signal-init c = adds_no_part c.args.net.now c.args.builder.now (rows_of_sig
 pub add_rows_of_signal-requires-clause-fits : goal.add_rows_of_signal-requires-clause-fits
 add_rows_of_signal-requires-clause-fits c =
     fits_part c.args.net.now c.args.builder.now c.loop-signal.builder (length c.args.net.now.signals) c.loop-signal.signal (rows_of_signal c.args.net.now)
-    (rules_fit c.args.net.now c.args.builder.now c.requires.all_columns c.requires.few) (search (rules, c.loop-signal-test.true)) c.loop-signal.invariant
+    (rules_fit c.args.net.now c.args.builder.now c.requires.plan c.requires.few) (search (rules, c.loop-signal-test.true)) c.loop-signal.invariant
 
 pub loop-signal-preserved : goal.loop-signal-preserved
 loop-signal-preserved c =

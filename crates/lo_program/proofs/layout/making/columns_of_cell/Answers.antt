@@ -9,8 +9,8 @@ use Rattle.lo_program.proofs.layout.making.columns_of_cell.Goals as goal
 
 pub returns-clause-value : goal.returns-clause-value
 returns-clause-value c =
-    let first : c.columns_before_split.result ≡ after_room c.args.net.now.cells c.args.i =
-    c.columns_before_split.ensures.value ∙ ap (λ (room : Bool). if room then 3 else 1) c.requires.room in
+    let first : c.after_room.result ≡ after_room c.args.net.now.cells c.args.i =
+    c.after_room.ensures.value ∙ ap (λ (room : Bool). if room then 3 else 1) c.requires.room in
     let split : c.columns_of_split.result ≡ length (columns_of_split 0 0 (cell_of c.args.net.now.cells c.args.i).out) =
     c.columns_of_split.ensures.value ∙ ap (λ (cell : Cell). length (columns_of_split 0 0 cell.out)) c.cell.ensures.value in
     let terms : c.term_count.result ≡ term_count (cell_of c.args.net.now.cells c.args.i).out =

@@ -8,4 +8,4 @@ pub loop-i-init : goal.loop-i-init
 loop-i-init c = c.new-rooms.ensures ∙ sym (table_of-zero (has_room c.args.cells.now))
 
 pub loop-i-preserved : goal.loop-i-preserved
-loop-i-preserved c = c.in_ok-push.ensures.ok ∙ table_more c.loop-i.i (has_room c.args.cells.now) c.loop-i.rooms c.has_room.result c.loop-i.invariant c.has_room.ensures
+loop-i-preserved c = c.in_ok-push.ensures.ok ∙ table_more c.loop-i.i (has_room c.args.cells.now) c.loop-i.rooms c.is_room_column.result c.loop-i.invariant c.is_room_column.ensures
