@@ -1,0 +1,4 @@
+pub mod Value
+pub mod Tree
+pub mod Leaves
+pub mod Certificates
