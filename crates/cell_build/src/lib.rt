@@ -15,8 +15,6 @@ mod network;
 mod network_fault;
 mod out;
 mod reader;
-#[cfg(test)]
-mod tests;
 
 pub use builder::build;
 pub use demand::DemandFault;

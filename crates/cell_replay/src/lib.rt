@@ -7,8 +7,6 @@ pub mod laws;
 mod lines;
 mod moves;
 mod replay;
-#[cfg(test)]
-mod tests;
 mod whole_plan;
 
 pub use flow::{is_open, parcel, receiving};

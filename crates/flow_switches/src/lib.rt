@@ -8,8 +8,6 @@ pub mod laws;
 mod move_rows;
 mod sums;
 mod term;
-#[cfg(test)]
-mod tests;
 
 pub use first_least::least;
 pub use floor::floor_row;

@@ -11,8 +11,6 @@ mod link;
 mod raw;
 mod reader;
 mod signal;
-#[cfg(test)]
-mod tests;
 
 pub use demand::Piece;
 pub use fault::{At, NetFault};

@@ -6,8 +6,6 @@ mod fault;
 mod phase;
 mod run_list;
 mod scan;
-#[cfg(test)]
-mod tests;
 
 pub use expansion::{expand, judge_run};
 pub use fault::RunFault;

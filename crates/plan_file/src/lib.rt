@@ -2,8 +2,6 @@
 #![tactic(auto)]
 
 mod fault;
-#[cfg(test)]
-mod fault_tests;
 pub mod laws;
 mod line;
 mod reader;

@@ -6,8 +6,6 @@ pub mod laws;
 mod number;
 mod point;
 mod program;
-#[cfg(test)]
-mod tests;
 
 pub use fault::PointFault;
 pub use point::{read_point, write_point};

@@ -11,8 +11,6 @@ pub mod limits;
 mod program;
 mod row;
 mod terms;
-#[cfg(test)]
-mod tests;
 
 pub use bounds::Bounds;
 pub use builder::Builder;
