@@ -1,17 +1,15 @@
 -- The cells of the links one link at a time, and what a link may ask of a network without a fault.
-use Rattle.std.proofs.Common.{◌≡◌, ◌≢◌, ℕ, ◌+◌, ◌<◌, ◌≤◌, List, [], ◌++◌, Option, Some, None, length, refl, ap, sym, ◌∙◌, arith}
-use Rattle.std.proofs.lemmas.List.{length-map}
+use Rattle.std.proofs.Common.{◌≡◌, ◌≢◌, ℕ, ◌+◌, ◌<◌, ◌≤◌, List, [], ◌++◌, None, length, refl, ap, sym, ◌∙◌, arith}
 use Rattle.ct_base.specs.declared.cell.Cell.{Cell}
-use Rattle.listed.proofs.SumLaws.{sum_below-fewer, sum_below-suc}
 use Rattle.network_file.specs.declared.raw.RawNet.{RawNet}
-use Rattle.network_file.specs.declared.raw.RawSignal.{RawSignal}
 use Rattle.listed.specs.Below.{join_below}
 use Rattle.cell_build.specs.Link.{cell_count, cells_at, cells_below, cells_of_link, cells_of_links, gate_of, out_by}
-use Rattle.cell_build.specs.Names.{raw_link, signal_names}
-use Rattle.cell_build.proofs.FaultLaws.{HasNoFault, cells_are_few, signal_is_known}
-use Rattle.listed.proofs.JoinLaws.{join_below-suc, length-join_below}
-use Rattle.cell_build.proofs.LinkCells.{length-cells_of_link}
-use Rattle.cell_build.proofs.NumberLaws.{number_within}
+use Rattle.cell_build.specs.Names.{raw_link, no_link}
+use Rattle.cell_build.proofs.FaultLaws.{HasNoFault, cells_are_few}
+use Rattle.cell_build.proofs.FirstLaws.{next_is_few}
+use Rattle.cell_build.proofs.KnownSignals.{signals_are_there}
+use Rattle.cell_build.proofs.PlaceLaws.{length-cells_before}
+use Rattle.listed.proofs.JoinLaws.{join_below-suc}
 
 -- no link, and one more
 pub cells_none : (raw : RawNet) → [] ≡ cells_of_links raw.steps raw.signals raw.links 0
@@ -21,13 +19,6 @@ cells_none raw = refl
 cells_more : (raw : RawNet) (k : ℕ) → cells_of_links raw.steps raw.signals raw.links (k + 1) ≡ cells_of_links raw.steps raw.signals raw.links k ++ cells_at raw.steps raw.signals raw.links k
 unfolding cells_of_links
 cells_more raw k = join_below-suc k (cells_at raw.steps raw.signals raw.links)
-
--- as many cells as the links become
-pub length-cells_before : (raw : RawNet) (k : ℕ) → length (cells_of_links raw.steps raw.signals raw.links k) ≡ cells_below raw.links k
-unfolding cells_of_links
-length-cells_before raw k =
-    length-join_below k (cells_at raw.steps raw.signals raw.links) (λ m. cell_count (raw_link raw.links m))
-    (λ m. let link = raw_link raw.links m in length-cells_of_link raw.steps (cells_below raw.links m) (out_by raw.links link.to link.turns) (gate_of raw.signals link) link)
 
 -- the cells of link k behind those of the links before it
 pub link_is_added : (raw : RawNet) (k : ℕ) (before all : List Cell) → before ≡ cells_of_links raw.steps raw.signals raw.links k →
@@ -42,13 +33,8 @@ link_is_added raw k before all is added =
 -- the cells up to link k are few
 pub link_is_few : (raw : RawNet) (k : ℕ) → HasNoFault raw → k < length raw.links → length (cells_of_links raw.steps raw.signals raw.links k) + cell_count (raw_link raw.links k) ≤ 256
 link_is_few raw k fine within =
-    omega (arith, length-cells_before raw k, cells_are_few raw fine, sum_below-suc k (λ m. cell_count (raw_link raw.links m)), sum_below-fewer (k + 1) (length raw.links) (λ m. cell_count (raw_link raw.links m)) (omega arith))
+    omega (arith, length-cells_before raw k, cells_are_few raw fine, next_is_few raw.links k within)
 
 -- a link that names a signal finds one
 pub has_signals : (raw : RawNet) (k : ℕ) → HasNoFault raw → k < length raw.links → (raw_link raw.links k).signal ≢ None → 0 < length raw.signals
-has_signals raw k fine within gated = by_signal (raw_link raw.links k).signal refl
-  where
-    by_signal : (signal : Option (List ℕ)) → (raw_link raw.links k).signal ≡ signal → 0 < length raw.signals
-    by_signal None none = absurd (gated none)
-    by_signal (Some name) named =
-        omega (arith, number_within (signal_names raw.signals) name (signal_is_known raw k name fine within named), length-map raw.signals (λ (signal : RawSignal). signal.name))
+has_signals raw k fine within gated = signals_are_there raw.signals raw.links tt (rw fine.unknown_signal refl) k no_link within gated

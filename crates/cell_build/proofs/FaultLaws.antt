@@ -140,16 +140,16 @@ leads_elsewhere raw k fine within = where_none (leads_to (raw_link raw.links k) 
 
 -- no branch names the link of an earlier one
 pub branch_is_new : (raw : RawNet) (k j : ℕ) → HasNoFault raw → k < length raw.links → j < length (raw_link raw.links k).turns →
-    list_any (bytes_eq (turn_of (raw_link raw.links k) j)) (map (λ (turn : List ℕ × ℕ). turn.0) (take j (raw_link raw.links k).turns)) ≡ false
+    list_any (λ (turn : List ℕ × ℕ). bytes_eq (turn_of (raw_link raw.links k) j) turn.0) (take j (raw_link raw.links k).turns) ≡ false
 unfolding twice_turn
 branch_is_new raw k j fine within there =
     let link = raw_link raw.links k in
-    where_none (list_any (bytes_eq (turn_of link j)) (map (λ (turn : List ℕ × ℕ). turn.0) (take j link.turns))) (TwiceTurn k j)
+    where_none (list_any (λ (turn : List ℕ × ℕ). bytes_eq (turn_of link j) turn.0) (take j link.turns)) (TwiceTurn k j)
     (per_item_none link.turns _ j ([], 0) (per_item_none raw.links _ k no_link fine.twice_turn within) there)
 
 -- no link with demand is led into
 pub queue_is_not_fed : (raw : RawNet) (k : ℕ) → HasNoFault raw → k < length raw.links →
-    (not (is_empty (raw_link raw.links k).pieces) && not (is_empty (feeders raw.links (raw_link raw.links k).name))) ≡ false
+    (not (is_empty (raw_link raw.links k).pieces) && list_any (λ (feeder : RawLink). leads_to feeder (raw_link raw.links k).name) raw.links) ≡ false
 unfolding fed
 queue_is_not_fed raw k fine within = where_none _ (Fed k) (per_item_none raw.links _ k no_link fine.fed within)
 

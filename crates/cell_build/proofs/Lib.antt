@@ -7,7 +7,6 @@ pub mod KnownValues
 pub mod LeadLaws
 pub mod LinkCells
 pub mod MergeLaws
-pub mod MergeLists
 pub mod NameLaws
 pub mod NamedLaws
 pub mod NetworkLaws
@@ -18,3 +17,4 @@ pub mod QueueLaws
 pub mod SignalLaws
 pub mod SpelledLaws
 pub mod TableSteps
+pub mod WithQueue

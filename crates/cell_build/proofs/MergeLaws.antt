@@ -1,7 +1,8 @@
 -- Links that lead into one are apart, and a link with demand is led into by none.
 use Rattle.std.proofs.Common.{◌≡◌, ◌≢◌, inl, inr, ℕ, zero, suc, ◌<◌, Bool, true, false, not, ◌==◌, if◌then◌else◌, List, [], ◌∷◌, length, map, filter, get_or, Option, Some, None, bit_and, refl, sym, ◌∙◌, arith}
-use Rattle.std.specs.List.{list_all}
+use Rattle.std.specs.List.{list_all, list_any}
 use Rattle.std.proofs.lemmas.Bool.{and_parts, and_cases, cases_order, eqb-true, false≢true, not-false}
+use Rattle.std.proofs.lemmas.List.Folds.{list_any_at}
 use Rattle.std.proofs.lemmas.Nat.{and_comm}
 use Rattle.ct_base.specs.Validity.{AreApart}
 use Rattle.ct_base.specs.declared.cell.Gate.{Gate}
@@ -10,7 +11,7 @@ use Rattle.network_file.specs.declared.raw.RawLink.{RawLink}
 use Rattle.demand.specs.declared.piece.Piece.{Piece}
 use Rattle.cell_build.specs.Link.{gate_of, queue_count}
 use Rattle.cell_build.specs.Names.{raw_link, no_link}
-use Rattle.cell_build.specs.Refusals.{are_apart, feeders, is_apart, is_empty, leads_to}
+use Rattle.cell_build.specs.Refusals.{are_apart, is_apart, is_empty, leads_to}
 use Rattle.cell_build.proofs.FaultLaws.{HasNoFault, feeders_are_apart, queue_is_not_fed}
 
 -- what holds of all gates, and of each two, holds where the first is left out
@@ -41,16 +42,6 @@ two_apart gate test (x ∷ xs) zero (suc k) d all before within first second =
     of_one (is_apart (gate x)) gate test xs k d here.0 (omega arith) second
 two_apart gate test (x ∷ xs) (suc i) (suc k) d all before within first second =
     two_apart gate test xs i k d (rest_are_apart gate (test x) x (filter test xs) all) (omega arith) (omega arith) first second
-
--- a list of those that pass is not empty where one passes
-still_some : {X : Type 0} (b : Bool) (x : X) (xs : List X) → is_empty xs ≡ false → is_empty (if b then x ∷ xs else xs) ≡ false
-still_some true x xs some = refl
-still_some false x xs some = some
-
-some_pass : {X : Type 0} (test : X → Bool) (xs : List X) (k : ℕ) (d : X) → k < length xs → test (get_or xs k d) ≡ true → is_empty (filter test xs) ≡ false
-some_pass test [] k d within passes = absurd (omega arith)
-some_pass test (x ∷ xs) zero d within passes = rw passes refl
-some_pass test (x ∷ xs) (suc k) d within passes = still_some (test x) x (filter test xs) (some_pass test xs k d (omega arith) passes)
 
 -- what the test says of two gates
 apart_from : (first second : Option Gate) → is_apart first second ≡ true → AreApart first second
@@ -95,8 +86,8 @@ pub fed_has_no_queue : (raw : RawNet) (m a : ℕ) → HasNoFault raw → m < len
 fed_has_no_queue raw m a fine there within leads =
     let name = (raw_link raw.links m).name in
     let pieces = (raw_link raw.links m).pieces in
-    let some : is_empty (feeders raw.links name) ≡ false = some_pass (λ (link : RawLink). leads_to link name) raw.links a no_link within leads in
-    no_queue pieces (elim (and_cases (not (is_empty pieces)) (not (is_empty (feeders raw.links name))) (queue_is_not_fed raw m fine there)) [
+    let some = list_any_at (λ (link : RawLink). leads_to link name) raw.links a no_link within leads in
+    no_queue pieces (elim (and_cases (not (is_empty pieces)) (list_any (λ (link : RawLink). leads_to link name) raw.links) (queue_is_not_fed raw m fine there)) [
       | inl none ↦ not-false (is_empty pieces) none
-      | inr none ↦ absurd (false≢true (sym some ∙ not-false (is_empty (feeders raw.links name)) none))
+      | inr none ↦ absurd (false≢true (sym none ∙ some))
     ])

@@ -1,8 +1,8 @@
 -- The places of names, and names among others.
-use Rattle.std.proofs.Common.{◌≡◌, ℕ, Bool, not, List, [], ◌∷◌, cond, ◌+◌, map, position, refl, ap, sym, ◌||◌, ◌++◌}
+use Rattle.std.proofs.Common.{◌≡◌, ℕ, Bool, not, List, [], ◌∷◌, cond, ◌+◌, map, position, refl, ap, ◌∙◌, ◌||◌, ◌++◌}
 use Rattle.std.specs.List.{list_any, position_or_len}
 use Rattle.std.proofs.lemmas.List.{length-map}
-use Rattle.std.proofs.Math.Bool.{or_assoc}
+use Rattle.std.proofs.lemmas.List.Folds.{list_any-append}
 use Rattle.std.specs.Str.{bytes_eq}
 use Rattle.network_file.specs.declared.raw.RawPhase.{RawPhase}
 
@@ -20,11 +20,10 @@ pub position_phase : (name : List ℕ) (phases : List RawPhase) → position (by
 position_phase name phases = position-map (bytes_eq name) (λ (phase : RawPhase). phase.name) phases
 
 -- a name is found among the names of branches as among the branches
-pub list_any_turns : (name : List ℕ) (turns : List (List ℕ × ℕ)) → list_any (bytes_eq name) (map (λ (turn : List ℕ × ℕ). turn.0) turns) ≡ list_any (λ (turn : List ℕ × ℕ). bytes_eq name turn.0) turns
+list_any_turns : (name : List ℕ) (turns : List (List ℕ × ℕ)) → list_any (bytes_eq name) (map (λ (turn : List ℕ × ℕ). turn.0) turns) ≡ list_any (λ (turn : List ℕ × ℕ). bytes_eq name turn.0) turns
 list_any_turns name [] = refl
 list_any_turns name (turn ∷ turns) = rw (list_any_turns name turns)
 
--- a name is found among two lists where it is found in one
-pub list_any_led_to : (name : List ℕ) (xs ys : List (List ℕ)) → list_any (bytes_eq name) (xs ++ ys) ≡ (list_any (bytes_eq name) xs || list_any (bytes_eq name) ys)
-list_any_led_to name [] ys = refl
-list_any_led_to name (x ∷ xs) ys = rw (list_any_led_to name xs ys) (sym (or_assoc (bytes_eq name x) (list_any (bytes_eq name) xs) (list_any (bytes_eq name) ys)))
+-- a name is led to by `to` or by a branch
+pub list_any_led_to : (name : List ℕ) (to : List (List ℕ)) (turns : List (List ℕ × ℕ)) → list_any (bytes_eq name) (to ++ map (λ (turn : List ℕ × ℕ). turn.0) turns) ≡ (list_any (bytes_eq name) to || list_any (λ (turn : List ℕ × ℕ). bytes_eq name turn.0) turns)
+list_any_led_to name to turns = list_any-append (bytes_eq name) to (map (λ (turn : List ℕ × ℕ). turn.0) turns) ∙ ap (λ b. list_any (bytes_eq name) to || b) (list_any_turns name turns)

@@ -1,13 +1,10 @@
 -- The names of a network that is read and has no fault fit it.
-use Rattle.std.proofs.Common.{◌≡◌, inl, inr, ℕ, zero, suc, ◌+◌, ◌-◌, ◌<◌, true, List, [], ◌∷◌, length, get_or, map, Some, None, All, refl, subst, sym, ap, ◌∙◌, arith}
+use Rattle.std.proofs.Common.{◌≡◌, inl, inr, ℕ, ◌<◌, true, List, [], ◌∷◌, length, get_or, map, Some, None, All, refl, subst, sym, ap, ◌∙◌, arith}
 use Rattle.std.proofs.lemmas.Bool.{cases_lt}
-use Rattle.std.proofs.lemmas.List.{get_or_append_left, get_or-append_right, get_or-map, length-append, length-map}
-use Rattle.std.proofs.lemmas.List.Elements.{All-map, All-append}
+use Rattle.std.proofs.lemmas.List.{get_or-map, length-map}
+use Rattle.std.proofs.lemmas.List.Elements.{All-map}
 use Rattle.ct_base.specs.Access.{cell_of, signal_of as built_signal}
 use Rattle.ct_base.specs.declared.cell.Kind.TheVariants.{Queue, Road}
-use Rattle.listed.specs.Below.{table_of}
-use Rattle.listed.proofs.TableLaws.{get_or-table_of, length-table_of}
-use Rattle.demand.specs.declared.piece.Piece.{Piece}
 use Rattle.network_file.specs.Range.{IsInRange, IsSignalInRange, all_differ}
 use Rattle.network_file.specs.declared.raw.RawNet.{RawNet}
 use Rattle.network_file.specs.declared.raw.RawLink.{RawLink}
@@ -18,7 +15,7 @@ use Rattle.cell_build.specs.Built.{named_of, signal_built}
 use Rattle.cell_build.specs.Link.{cell_count, cells_below, queue_count}
 use Rattle.cell_build.specs.Names.{link_names, raw_link, no_signal, raw_signal}
 use Rattle.named_net.specs.Naming.{AreInLinks, AreSignalNames, IsNamed, IsPlaced, NameTable, place_at}
-use Rattle.cell_build.specs.Naming.{names_of, names_of_signal, places_of, places_of_link, queue_place}
+use Rattle.cell_build.specs.Naming.{names_of, names_of_signal, places_of, places_of_link}
 use Rattle.cell_build.specs.Refusals.{faults_of}
 use Rattle.named_net.specs.declared.names.Place.{Place}
 use Rattle.named_net.specs.declared.names.SignalNames.{SignalNames}
@@ -27,31 +24,30 @@ use Rattle.cell_build.proofs.FaultLaws.{HasNoFault, has_no_fault}
 use Rattle.cell_build.proofs.NetworkLaws.{named_is_valid}
 use Rattle.cell_build.proofs.PlaceLaws.{IsAt, cell_is_link_cell, cells_of, length-cells_of, place_of}
 use Rattle.cell_build.proofs.SignalLaws.{count_of_phases, signals_of}
+use Rattle.cell_build.proofs.WithQueue.{length-with_queue, with_queue-first, with_queue-road}
+
+-- the place of the queue of link k, and of its road cell i
+abbrev queue_place : ℕ → Place
+queue_place k = record { link = k; road = None }
+
+abbrev road_place : ℕ → ℕ → Place
+road_place k i = record { link = k; road = Some i }
 
 -- a link has as many places as cells
-length-queue_place : (k : ℕ) (pieces : List Piece) → length (queue_place k pieces) ≡ queue_count pieces
-length-queue_place k [] = refl
-length-queue_place k (piece ∷ pieces) = refl
-
 length-places_of_link : (k : ℕ) (link : RawLink) → length (places_of_link k link) ≡ cell_count link
-length-places_of_link k link = rw (length-append, length-queue_place k link.pieces, length-table_of) refl
+length-places_of_link k link = length-with_queue link.pieces (queue_place k) link.cells (road_place k)
 
 pub length-places_of : (links : List RawLink) → length (places_of links) ≡ cells_below links (length links)
 unfolding places_of
 length-places_of links = length-join_below (length links) (λ k. places_of_link k (raw_link links k)) (λ k. cell_count (raw_link links k)) (λ k. length-places_of_link k (raw_link links k))
 
 -- each place of link k is one of a link that is there
-queue_place_is_of : (k n : ℕ) (pieces : List Piece) → k < n → All (λ (place : Place). place.link < n) (queue_place k pieces)
-queue_place_is_of k n [] within = λ i d there. absurd (omega arith)
-queue_place_is_of k n (piece ∷ pieces) within = λ i d there. let first : i ≡ 0 = omega arith in rw first within
-
 places_of_link_are_of : (k n : ℕ) (link : RawLink) → k < n → All (λ (place : Place). place.link < n) (places_of_link k link)
-places_of_link_are_of k n link within =
-    All-append (λ (place : Place). place.link < n) (queue_place k link.pieces) (table_of link.cells (λ i. record { link = k; road = Some i }))
-    (queue_place_is_of k n link.pieces within)
-    (λ i d there.
-    let inner : i < link.cells = omega (arith, there, length-table_of {X = Place} link.cells (λ i. record { link = k; road = Some i })) in
-    rw (get_or-table_of {X = Place} link.cells (λ i. record { link = k; road = Some i }) i d inner) within)
+places_of_link_are_of k n link within = λ i d there.
+    elim (cases_lt i (queue_count link.pieces)) [
+      | inl before ↦ rw (with_queue-first link.pieces (queue_place k) link.cells (road_place k) i d before) within
+      | inr after ↦ rw (with_queue-road link.pieces (queue_place k) link.cells (road_place k) i d after (omega (arith, there, length-places_of_link k link))) within
+    ]
 
 places_are_of : (links : List RawLink) → All (λ (place : Place). place.link < length links) (places_of links)
 unfolding places_of
@@ -62,28 +58,6 @@ places_are_of links =
 -- the places of the cells are in links that are there
 pub are_in_links : (links : List RawLink) (names : NameTable) → names.links ≡ link_names links → names.places ≡ places_of links → AreInLinks names
 are_in_links links names same_links same_places = rw (same_links, same_places, length-map) (places_are_of links)
-
--- a road cell's place
-abbrev road_place : ℕ → ℕ → Place
-road_place k i = record { link = k; road = Some i }
-
--- the place of the queue of link k
-queue_place_at : (k : ℕ) (pieces : List Piece) (i : ℕ) (d : Place) → i < queue_count pieces → get_or (queue_place k pieces) i d ≡ record { link = k; road = None }
-queue_place_at k [] i d within = absurd (omega arith)
-queue_place_at k (piece ∷ pieces) zero d within = refl
-queue_place_at k (piece ∷ pieces) (suc i) d within = absurd (omega arith)
-
-place_of_queue : (k : ℕ) (link : RawLink) (i : ℕ) (d : Place) → i < queue_count link.pieces → get_or (places_of_link k link) i d ≡ record { link = k; road = None }
-place_of_queue k link i d within =
-    let there : i < length (queue_place k link.pieces) = omega (arith, length-queue_place k link.pieces) in
-    get_or_append_left (queue_place k link.pieces) (table_of link.cells (road_place k)) d i there ∙ queue_place_at k link.pieces i d within
-
--- the place of its road cell i
-place_of_road : (k : ℕ) (link : RawLink) (i : ℕ) (d : Place) → i < link.cells → get_or (places_of_link k link) (queue_count link.pieces + i) d ≡ road_place k i
-place_of_road k link i d within =
-    let here : queue_count link.pieces + i - queue_count link.pieces ≡ i = omega arith in
-    get_or-append_right (queue_place k link.pieces) (table_of link.cells (road_place k)) (queue_count link.pieces) (queue_count link.pieces + i) d (length-queue_place k link.pieces) (omega arith)
-    ∙ ap (λ m. get_or (table_of link.cells (road_place k)) m d) here ∙ get_or-table_of link.cells (road_place k) i d within
 
 -- cell j of the network, which is cell i of link k, has the place of that cell
 place_of_cell : (links : List RawLink) (j k i : ℕ) (d : Place) → IsAt links j k i → get_or (places_of links) j d ≡ get_or (places_of_link k (raw_link links k)) i d
@@ -105,13 +79,11 @@ cell_is_placed raw j k i in_range fine here =
     elim (cases_lt i queues) [
       | inl before ↦
           let is_queue : cell.kind ≡ Queue = is.queue before in
-          subst P (sym (among ∙ place_of_queue k link i (record { link = 0; road = None }) before))
+          subst P (sym (among ∙ with_queue-first link.pieces (queue_place k) link.cells (road_place k) i (record { link = 0; road = None }) before))
           (record { link = is_there; queue = λ _. refl; road = λ is_road. absurd (cc) })
       | inr after ↦
           let is_road : cell.kind ≡ Road = is.road after in
-          let back : queues + (i - queues) ≡ i = omega arith in
-          let place = rw back at (place_of_road k link (i - queues) (record { link = 0; road = None }) (omega (arith, here.cell))) in
-          subst P (sym (among ∙ place))
+          subst P (sym (among ∙ with_queue-road link.pieces (queue_place k) link.cells (road_place k) i (record { link = 0; road = None }) after here.cell))
           (record { link = is_there; queue = λ is_queue. absurd (cc); road = λ _. refl })
     ]
 
@@ -138,7 +110,7 @@ unfolding named_of
 named_is_named raw in_range none = record {
   valid = named_is_valid raw in_range none;
   links = All-map (λ name. is_name name ≡ true) (λ (link : RawLink). link.name) raw.links (λ k d there. (in_range.each_link k d there).name);
-  one_per_signal = length-map raw.signals names_of_signal ∙ sym (length-table_of (length raw.signals) (λ s. signal_built (raw_signal raw.signals s)));
+  one_per_signal = length-map raw.signals names_of_signal ∙ sym (length-map raw.signals signal_built);
   each_signal = λ s there.
       let within : s < length raw.signals = omega (arith, there, length-map raw.signals names_of_signal) in
       rw (get_or-map names_of_signal raw.signals s no_signal (record { name = []; phases = [] }) within) (signal_is_named raw s in_range within);

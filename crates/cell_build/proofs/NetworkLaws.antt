@@ -1,28 +1,27 @@
 -- A network without a fault is valid.
 use Rattle.std.proofs.Common.{◌≡◌, ◌≢◌, ◌⊎◌, inl, inr, ℕ, ◌+◌, ◌<◌, true, List, [], ◌∷◌, length, map, get_or, Option, Some, None, All, AllPairs, Contains, refl, sym, ap, ◌∙◌, arith}
 use Rattle.std.proofs.lemmas.Bool.{cases_lt}
-use Rattle.std.proofs.lemmas.List.{get_or-map, length-map}
+use Rattle.std.proofs.lemmas.List.{get_or_default, length-map}
 use Rattle.std.proofs.lemmas.List.Elements.{All-map}
 use Rattle.ct_base.specs.Access.{cell_of, targets}
-use Rattle.ct_base.specs.Validity.{AreApart, IsBetween, IsCell, IsSplit, IsTarget, IsValid}
+use Rattle.ct_base.specs.Validity.{AreApart, IsBetween, IsCell, IsSignal, IsSplit, IsTarget, IsValid}
 use Rattle.ct_base.specs.declared.cell.Gate.{Gate}
 use Rattle.ct_base.specs.declared.cell.Out.{Out}
 use Rattle.ct_base.specs.declared.cell.Out.TheVariants.{To, Turns}
 use Rattle.ct_base.specs.declared.net.Net.{Net}
-use Rattle.listed.proofs.TableLaws.{get_or-table_of, length-table_of}
 use Rattle.network_file.specs.Range.{IsInRange, IsLinkInRange}
 use Rattle.network_file.specs.declared.raw.RawNet.{RawNet}
-use Rattle.network_file.specs.declared.raw.RawLink.{RawLink}
 use Rattle.cell_build.specs.Built.{named_of, signal_built}
-use Rattle.cell_build.specs.Link.{cell_count, cells_below, first_road, gate_of, out_by, queue_count, road_named}
-use Rattle.cell_build.specs.Names.{link_names, raw_link, number_of, raw_signal}
+use Rattle.cell_build.specs.Link.{cell_count, cells_below, first_road, gate_of, out_by, queue_count}
+use Rattle.cell_build.specs.Names.{link_names, raw_link, no_signal, number_of}
 use Rattle.cell_build.specs.Refusals.{faults_of, leads_to}
 use Rattle.cell_build.proofs.FaultLaws.{turn_of, HasNoFault, cells_are_few, has_no_fault}
-use Rattle.cell_build.proofs.LeadLaws.{LeadsInto, branches_differ, named_within, targets_are_roads}
-use Rattle.cell_build.proofs.LinkCells.{IsLinkCell, queue_count-le}
+use Rattle.cell_build.proofs.LeadLaws.{LeadsInto, branch_to, branches_differ, named_within, target_at, targets_are_roads}
+use Rattle.cell_build.proofs.LinkCells.{IsLinkCell}
 use Rattle.cell_build.proofs.MergeLaws.{fed_has_no_queue, feeders_apart}
 use Rattle.cell_build.proofs.PlaceLaws.{IsAt, cell_is_link_cell, cells_of, length-cells_of, one_place, place_of, place_within, road_place}
 use Rattle.cell_build.proofs.SignalLaws.{gate_of_link_is_gate, signal_is_signal, signals_of}
+use Rattle.cell_build.proofs.WithQueue.{queue_count-le}
 
 -- a network that is read and has no fault
 pub record IsSound (raw : RawNet) : Type 0 where
@@ -99,17 +98,6 @@ roads_differ : (raw : RawNet) (m n : ℕ) → IsSound raw → m < length raw.lin
 roads_differ raw m n sound first second differ same =
     differ (one_place raw.links (first_road raw.links m) m (queue_count (raw_link raw.links m).pieces) n (queue_count (raw_link raw.links n).pieces)
     (road_place raw m sound.in_range first) (rw (← same) at (road_place raw n sound.in_range second))).0
-
--- a branch of a diverge as the file writes it
-abbrev branch_to : List RawLink → (List ℕ × ℕ) → ℕ × ℕ
-branch_to links branch = (road_named links branch.0, branch.1)
-
--- a cell of a branch
-target_at : (links : List RawLink) (turns : List (List ℕ × ℕ)) (i d : ℕ) → i < length turns → get_or (targets (Turns (map (branch_to links) turns))) i d ≡ road_named links (get_or turns i ([], 0)).0
-target_at links turns i d within =
-    let built : i < length (map (branch_to links) turns) = rw length-map within in
-    get_or-map (λ (branch : ℕ × ℕ). branch.0) (map (branch_to links) turns) i (d, 0) d built
-    ∙ ap (λ (branch : ℕ × ℕ). branch.0) (get_or-map (branch_to links) turns i ([], 0) (d, 0) within)
 
 -- the branches of link k lead into different cells
 branches_are_apart : (raw : RawNet) (k : ℕ) → IsSound raw → k < length raw.links → AllPairs (λ i j. i ≢ j) (targets (Turns (map (branch_to raw.links) (raw_link raw.links k).turns)))
@@ -206,10 +194,8 @@ sound_is_valid raw sound =
         omega (arith, count, place_within raw.links (first_road raw.links 0) 0 (queue_count (raw_link raw.links 0).pieces) (road_place raw 0 sound.in_range (omega (arith, sound.in_range.links)))),
         omega (arith, count, cells_are_few raw sound.fine),
       );
-      signals = rw length-table_of sound.in_range.signals;
-      each_signal = λ s d within.
-          let there : s < length raw.signals = omega (arith, length-table_of (length raw.signals) (λ s. signal_built (raw_signal raw.signals s))) in
-          rw (get_or-table_of (length raw.signals) (λ s. signal_built (raw_signal raw.signals s)) s d there) (signal_is_signal raw s sound.in_range sound.fine there);
+      signals = rw length-map sound.in_range.signals;
+      each_signal = All-map IsSignal signal_built raw.signals (λ s d there. rw (get_or_default raw.signals s d no_signal there) (signal_is_signal raw s sound.in_range sound.fine there));
       each_cell = λ j within.
           let place = place_of raw.links j (omega arith) in
           cell_is_cell raw j place.0 place.1 sound place.2;

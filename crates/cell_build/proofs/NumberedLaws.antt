@@ -9,7 +9,7 @@ use Rattle.std.proofs.lemmas.Slice.Eq.{bytes_eq-Decides}
 use Rattle.indexmap.specs.IndexSet.{insert_key}
 use Rattle.network_file.specs.Range.{all_differ}
 use Rattle.network_file.specs.declared.raw.RawNet.{RawNet}
-use Rattle.cell_build.specs.Numbered.{texts}
+use Rattle.cell_build.specs.inner.Numbered.{texts}
 use Rattle.cell_build.proofs.NumberLaws.{texts_differ}
 
 -- a test that cannot hold does not

@@ -3,7 +3,6 @@ use Rattle.std.proofs.Common.{◌≡◌, inl, inr, ℕ, ◌+◌, ◌<◌, ◌≤
 use Rattle.std.proofs.lemmas.Bool.{cases_order}
 use Rattle.ct_base.specs.Access.{cell_of, no_cell}
 use Rattle.ct_base.specs.declared.cell.Cell.{Cell}
-use Rattle.listed.proofs.SumLaws.{sum_below-fewer, sum_below-suc}
 use Rattle.network_file.specs.Range.{IsInRange, IsLinkInRange}
 use Rattle.network_file.specs.declared.raw.RawNet.{RawNet}
 use Rattle.network_file.specs.declared.raw.RawLink.{RawLink}
@@ -11,6 +10,7 @@ use Rattle.cell_build.specs.Link.{cell_count, cells_at, cells_below, cells_of_li
 use Rattle.cell_build.specs.Names.{raw_link}
 use Rattle.cell_build.proofs.FaultLaws.{HasNoFault, initial_fits, step_is_light}
 use Rattle.listed.proofs.JoinLaws.{get_or-join_below, length-join_below, part_of}
+use Rattle.cell_build.proofs.FirstLaws.{cells_below-fewer, cells_below-suc, next_is_few}
 use Rattle.cell_build.proofs.LinkCells.{IsFit, IsLinkCell, cell_of-cells_of_link, length-cells_of_link}
 
 -- cell j of the network is cell i of link k
@@ -18,13 +18,6 @@ pub record IsAt (links : List RawLink) (j k i : ℕ) : Type 0 where
   pub link : k < length links
   pub cell : i < cell_count (raw_link links k)
   pub is : j ≡ cells_below links k + i
-
--- the cells before the next link are those before the link and its own
-cells_below-suc : (links : List RawLink) (k : ℕ) → cells_below links (k + 1) ≡ cells_below links k + cell_count (raw_link links k)
-cells_below-suc links k = sum_below-suc k (λ m. cell_count (raw_link links m))
-
-cells_below-fewer : (links : List RawLink) (m n : ℕ) → m ≤ n → cells_below links m ≤ cells_below links n
-cells_below-fewer links m n le = sum_below-fewer m n (λ m. cell_count (raw_link links m)) le
 
 -- each cell is at a place
 pub place_of : (links : List RawLink) (j : ℕ) → j < cells_below links (length links) → (k : ℕ) × (i : ℕ) × IsAt links j k i
@@ -50,8 +43,7 @@ one_place links j k i m l here there =
 
 -- a place is within the network
 pub place_within : (links : List RawLink) (j k i : ℕ) → IsAt links j k i → j < cells_below links (length links)
-place_within links j k i here =
-    omega (arith, here.cell, here.is, cells_below-suc links k, cells_below-fewer links (k + 1) (length links) (omega (arith, here.link)))
+place_within links j k i here = omega (arith, here.cell, here.is, next_is_few links k here.link)
 
 -- the cells of a network
 abbrev pub cells_of : RawNet → List Cell
@@ -63,10 +55,13 @@ length-cells_at raw k =
     let link = raw_link raw.links k in
     length-cells_of_link raw.steps (cells_below raw.links k) (out_by raw.links link.to link.turns) (gate_of raw.signals link) link
 
-pub length-cells_of : (raw : RawNet) → length (cells_of raw) ≡ cells_below raw.links (length raw.links)
+-- as many cells as the links become
+pub length-cells_before : (raw : RawNet) (k : ℕ) → length (cells_of_links raw.steps raw.signals raw.links k) ≡ cells_below raw.links k
 unfolding cells_of_links
-length-cells_of raw =
-    length-join_below (length raw.links) (cells_at raw.steps raw.signals raw.links) (λ m. cell_count (raw_link raw.links m)) (length-cells_at raw)
+length-cells_before raw k = length-join_below k (cells_at raw.steps raw.signals raw.links) (λ m. cell_count (raw_link raw.links m)) (length-cells_at raw)
+
+pub length-cells_of : (raw : RawNet) → length (cells_of raw) ≡ cells_below raw.links (length raw.links)
+length-cells_of raw = length-cells_before raw (length raw.links)
 
 -- the units at step 0 have room where there is no fault
 has_room : (raw : RawNet) (k i : ℕ) → IsInRange raw → HasNoFault raw → k < length raw.links → i < (raw_link raw.links k).cells → initial_at (raw_link raw.links k).initial i ≤ (raw_link raw.links k).store

@@ -1,14 +1,12 @@
 -- The signals of a network without a fault, and the gates of its links, keep the rules of a valid network.
-use Rattle.std.proofs.Common.{◌≡◌, ◌≢◌, ℕ, ◌<◌, ◌≤◌, false, List, [], ◌∷◌, length, get_or, Option, Some, None, IfSome, All, refl, sym, ap, ◌∙◌, arith}
+use Rattle.std.proofs.Common.{◌≡◌, ◌≢◌, ℕ, ◌<◌, ◌≤◌, false, List, [], ◌∷◌, length, get_or, map, Option, Some, None, IfSome, All, refl, sym, ap, ◌∙◌, arith}
 use Rattle.std.specs.List.{list_any}
 use Rattle.std.specs.Str.{bytes_eq}
 use Rattle.std.proofs.lemmas.Bool.{true≢false}
 use Rattle.std.proofs.lemmas.List.{get_or_default, get_or-map, length-map}
 use Rattle.ct_base.specs.Access as base
-use Rattle.listed.specs.Below.{table_of}
 use Rattle.ct_base.specs.Validity.{IsBetween, IsGate, IsPhase, IsSignal}
 use Rattle.ct_base.specs.declared.signal.Signal.{Signal}
-use Rattle.listed.proofs.TableLaws.{length-table_of, get_or-table_of}
 use Rattle.network_file.specs.Range.{IsInRange, IsLinkInRange, IsPhaseInRange, IsSignalInRange}
 use Rattle.network_file.specs.declared.raw.RawNet.{RawNet}
 use Rattle.network_file.specs.declared.raw.RawSignal.{RawSignal}
@@ -75,15 +73,13 @@ pub signal_is_signal : (raw : RawNet) (s : ℕ) → IsInRange raw → HasNoFault
 signal_is_signal raw s in_range fine within =
     let signal = raw_signal raw.signals s in
     let limits : IsSignalInRange signal = signal_in_range raw s in_range within in
-    let build = λ (p : ℕ). phase_built (phase_names signal) (raw_phase signal p) in
-    let count : length (table_of (length signal.phases) build) ≡ length signal.phases = length-table_of (length signal.phases) build in
+    let build = phase_built (phase_names signal) in
     record {
-      phases = rw count limits.phases;
-      start = rw count (start_is_phase signal signal.start limits.phases.0 (λ name starts. start_is_known raw s name fine within starts));
+      phases = rw length-map limits.phases;
+      start = rw length-map (start_is_phase signal signal.start limits.phases.0 (λ name starts. start_is_known raw s name fine within starts));
       each = λ p there.
-          let inner : p < length signal.phases = omega arith in
-          let is : base.phase_of (signal_built signal) p ≡ build p = get_or-table_of (length signal.phases) build p base.no_phase inner in
-          rw (count, is) (phase_is_phase raw s p in_range fine within inner);
+          let inner : p < length signal.phases = rw length-map at there in
+          rw (length-map, get_or-map build signal.phases p no_phase base.no_phase inner) (phase_is_phase raw s p in_range fine within inner);
     }
 
 -- the greens of a link are phases of its signal
@@ -95,14 +91,12 @@ greens_are_known raw k name fine within gated = λ j d there.
 
 -- the signals of a network of cells
 abbrev pub signals_of : RawNet → List Signal
-signals_of raw = table_of (length raw.signals) (λ s. signal_built (raw_signal raw.signals s))
+signals_of raw = map signal_built raw.signals
 
 -- the phases of signal s are as many as the file names
 pub count_of_phases : (raw : RawNet) (s : ℕ) → s < length raw.signals → length (base.signal_of (signals_of raw) s).phases ≡ length (raw_signal raw.signals s).phases
 count_of_phases raw s within =
-    let signal = raw_signal raw.signals s in
-    ap (λ (signal : Signal). length signal.phases) (get_or-table_of (length raw.signals) (λ s. signal_built (raw_signal raw.signals s)) s base.no_signal within)
-    ∙ length-table_of (length signal.phases) (λ p. phase_built (phase_names signal) (raw_phase signal p))
+    ap (λ (signal : Signal). length signal.phases) (get_or-map signal_built raw.signals s no_signal base.no_signal within) ∙ length-map (raw_signal raw.signals s).phases _
 
 -- a gate by a signal that is known, with some of its phases
 gate_is_gate : (raw : RawNet) (name : List ℕ) (greens : List (List ℕ)) → is_unknown (signal_names raw.signals) name ≡ false → 1 ≤ length greens →
@@ -114,7 +108,7 @@ gate_is_gate raw name greens known some greens_known =
     let names = phase_names (raw_signal raw.signals s) in
     let count : length (base.signal_of (signals_of raw) s).phases ≡ length names = count_of_phases raw s within ∙ sym (length-map (raw_signal raw.signals s).phases _) in
     record {
-      signal = rw length-table_of within;
+      signal = omega (arith, within, length-map raw.signals signal_built);
       opens = set_of-some names greens some;
       phases = rw count (set_of-lt names greens greens_known);
     }

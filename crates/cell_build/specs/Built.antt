@@ -1,14 +1,13 @@
 -- The network of cells that the links and signals of a file become, or why there is none.
-use Rattle.std.specs.Prelude.{ℕ, List, length, Option, Some, None, Result}
+use Rattle.std.specs.Prelude.{ℕ, List, length, map, Option, Some, None, Result}
 use Rattle.refusals.specs.Faults.{unless}
-use Rattle.listed.specs.Below.{table_of}
 use Rattle.ct_base.specs.declared.signal.Signal.{Signal}
 use Rattle.ct_base.specs.declared.signal.Phase.{Phase}
 use Rattle.network_file.specs.declared.raw.RawNet.{RawNet}
 use Rattle.network_file.specs.declared.raw.RawSignal.{RawSignal}
 use Rattle.network_file.specs.declared.raw.RawPhase.{RawPhase}
 use Rattle.cell_build.specs.Link.{cells_of_links}
-use Rattle.cell_build.specs.Names.{number_of, phase_names, raw_phase, set_of, raw_signal}
+use Rattle.cell_build.specs.Names.{number_of, phase_names, set_of}
 use Rattle.named_net.specs.Naming.{Named}
 use Rattle.cell_build.specs.Naming.{names_of}
 use Rattle.cell_build.specs.Refusals.{faults_of}
@@ -25,14 +24,13 @@ phase_built names phase = record { min = phase.min; max = phase.max; clear = pha
 
 -- a signal, with its phases by number
 abbrev pub signal_built : RawSignal → Signal
-signal_built signal =
-    record { start = start_among (phase_names signal) signal.start; phases = table_of (length signal.phases) (λ p. phase_built (phase_names signal) (raw_phase signal p)) }
+signal_built signal = record { start = start_among (phase_names signal) signal.start; phases = map (phase_built (phase_names signal)) signal.phases }
 
 -- the network that the file's links and signals become
 unfoldable pub named_of : RawNet → Named
 named_of raw =
     record {
-      net = record { steps = raw.steps; cells = cells_of_links raw.steps raw.signals raw.links (length raw.links); signals = table_of (length raw.signals) (λ s. signal_built (raw_signal raw.signals s)) };
+      net = record { steps = raw.steps; cells = cells_of_links raw.steps raw.signals raw.links (length raw.links); signals = map signal_built raw.signals };
       names = names_of raw;
     }
 

@@ -2,7 +2,6 @@ pub mod Built
 pub mod Link
 pub mod Names
 pub mod Naming
-pub mod Numbered
 pub mod Refusals
 pub mod Spelled
 pub mod inner

@@ -67,10 +67,10 @@ queue_to out demand link =
 abbrev pub queue_of : ℕ → ℕ → RawLink → Cell
 queue_of steps first_road link = queue_to (To first_road) (rates_of link.pieces steps) link
 
--- the queue, where there is a piece
-abbrev pub queues_from : ℕ → ℕ → RawLink → List Piece → List Cell
-queues_from steps first_road link [] = []
-queues_from steps first_road link (piece ∷ pieces) = queue_of steps first_road link ∷ []
+-- what there is of a queue, where there is a piece
+abbrev pub where_demand : {X : Type 0} → List Piece → X → List X
+where_demand [] queue = []
+where_demand (piece ∷ pieces) queue = queue ∷ []
 
 -- a road cell of the link: its gate, where it leads, and its units at step 0
 abbrev pub road_to : Option Gate → Out → ℕ → RawLink → Cell
@@ -80,16 +80,15 @@ road_to gate out initial link =
 -- road cell i of a link: it leads to the next one, and the last one, behind the link's gate, where the link leads
 abbrev pub road_of : ℕ → Out → Option Gate → RawLink → ℕ → Cell
 road_of first_road last gate link i =
-    if nat_lt (i + 1) link.cells
-    then road_to None (To (first_road + (i + 1))) (initial_at link.initial i) link
-    else road_to gate last (initial_at link.initial i) link
+    let inner = nat_lt (i + 1) link.cells in
+    road_to (if inner then None else gate) (if inner then To (first_road + (i + 1)) else last) (initial_at link.initial i) link
 
 -- the cells of a link, of which the first bears a number: a queue where there is demand, and then the road cells
 -- from upstream to downstream
 unfoldable pub cells_of_link : ℕ → ℕ → Out → Option Gate → RawLink → List Cell
 cells_of_link steps first last gate link =
     let first_road = first + queue_count link.pieces in
-    queues_from steps first_road link link.pieces ++ table_of link.cells (road_of first_road last gate link)
+    where_demand link.pieces (queue_of steps first_road link) ++ table_of link.cells (road_of first_road last gate link)
 
 -- link k of a network as cells
 abbrev pub cells_at : ℕ → List RawSignal → List RawLink → ℕ → List Cell

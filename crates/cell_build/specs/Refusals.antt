@@ -112,7 +112,7 @@ itself links = per_item links itself_at
 
 -- twiceturn: branch j of link k names the link of an earlier branch
 abbrev pub twice_turn_in : List (List ℕ × ℕ) → ℕ → ℕ → List ℕ × ℕ → List BuildFault
-twice_turn_in turns k j turn = where_so (list_any (bytes_eq turn.0) (map (λ (earlier : List ℕ × ℕ). earlier.0) (take j turns))) (TwiceTurn k j)
+twice_turn_in turns k j turn = where_so (list_any (λ (earlier : List ℕ × ℕ). bytes_eq turn.0 earlier.0) (take j turns)) (TwiceTurn k j)
 
 -- the branches of link k that name the link of an earlier one
 abbrev pub twice_turn_at : ℕ → RawLink → List BuildFault
@@ -128,7 +128,7 @@ feeders links name = filter (λ (link : RawLink). leads_to link name) links
 
 -- fed: link k has demand and is led into
 abbrev pub fed_at : List RawLink → ℕ → RawLink → List BuildFault
-fed_at links k link = where_so (not (is_empty link.pieces) && not (is_empty (feeders links link.name))) (Fed k)
+fed_at links k link = where_so (not (is_empty link.pieces) && list_any (λ (feeder : RawLink). leads_to feeder link.name) links) (Fed k)
 
 -- fed: all links that have demand and are led into
 unfoldable pub fed : List RawLink → List BuildFault

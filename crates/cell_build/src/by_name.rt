@@ -5,7 +5,7 @@ ghost use Rattle.std.specs.Prelude.{◌≡◌, ◌<◌, true, length, map, posit
 ghost use Rattle.std.specs.Str.{bytes_eq};
 ghost use Rattle.cell_build.specs.Link.{signal_named};
 ghost use Rattle.cell_build.specs.Names.{link_names, raw_link, signal_names};
-ghost use Rattle.cell_build.specs.Numbered.{texts};
+ghost use Rattle.cell_build.specs.inner.Numbered.{texts};
 ghost use Rattle.network_file.specs.Range.{all_differ};
 
 use ct_base::Memory;
@@ -25,7 +25,7 @@ impl<'a> Model for Links<'a> {
     ghost use Rattle.std.specs.Prelude.{◌≡◌, List};
     ghost use Rattle.network_file.specs.declared.raw.RawLink.{RawLink as Link};
     ghost use Rattle.cell_build.specs.Names.{link_names};
-    ghost use Rattle.cell_build.specs.Numbered.{texts};
+    ghost use Rattle.cell_build.specs.inner.Numbered.{texts};
 
     ghost Value = { List Link };
 
@@ -79,7 +79,7 @@ impl<'a> Model for Signals<'a> {
     ghost use Rattle.std.specs.Prelude.{◌≡◌, List};
     ghost use Rattle.network_file.specs.declared.raw.RawSignal.{RawSignal as Signal};
     ghost use Rattle.cell_build.specs.Names.{signal_names};
-    ghost use Rattle.cell_build.specs.Numbered.{texts};
+    ghost use Rattle.cell_build.specs.inner.Numbered.{texts};
 
     ghost Value = { List Signal };
 

@@ -1,4 +1,4 @@
-//! How many cells links become, and the numbers of the first of them.
+//! How many cells links become, and the numbers of their first road cells.
 
 ghost use Rattle.std.specs.Prelude.{◌≡◌, ◌<◌, ◌≤◌, length, All, IfOk};
 ghost use Rattle.cell_build.specs.inner.Firsts.{AreFirsts};
@@ -42,8 +42,8 @@ pub(crate) fn count_of_cells(links: &[RawLink]) -> u32
     count
 }
 
-/// The number of the first cell of each link.
-pub(crate) fn first_cells(alloc: Global, links: &[RawLink]) -> Result<Vec<u32>, Memory>
+/// The number of the first road cell of each link.
+pub(crate) fn first_roads(alloc: Global, links: &[RawLink]) -> Result<Vec<u32>, Memory>
     requires some { 0 < length links.now }
     requires few { cells_below links.now (length links.now) ≤ 256 }
     ensures { IfOk result (λ firsts. AreFirsts links.now firsts.items) }
@@ -51,8 +51,9 @@ pub(crate) fn first_cells(alloc: Global, links: &[RawLink]) -> Result<Vec<u32>, 
     let mut firsts = Vec::with_capacity(alloc, links.len())?;
     let mut count = 0;
     for link in links {
-        firsts.push(count)?;
-        count += queue_count(link.pieces.as_slice()) + link.cells;
+        let road = count + queue_count(link.pieces.as_slice());
+        firsts.push(road)?;
+        count = road + link.cells;
     }
     Ok(firsts)
 }
@@ -63,5 +64,5 @@ pub(crate) fn road_named(links: &Links<'_>, firsts: &[u32], name: &str) -> u32
     ensures { result ≡ road_named links.now name.now }
 {
     let place = links.place_of(name).unwrap_or(0);
-    firsts[place] + queue_count(links.get(place).pieces.as_slice())
+    firsts[place]
 }

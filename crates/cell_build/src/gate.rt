@@ -1,10 +1,9 @@
 //! Signals and their phases by number, and the gates of links.
 
 ghost use Rattle.std.specs.Prelude.{◌≡◌, ◌≢◌, ◌<◌, ◌≤◌, length, map, None, All, IfOk};
-ghost use Rattle.listed.specs.Below.{table_of};
 ghost use Rattle.cell_build.specs.Built.{phase_built, signal_built, start_among};
 ghost use Rattle.cell_build.specs.Link.{gate_of};
-ghost use Rattle.cell_build.specs.Names.{number_of, phase_names, raw_phase, set_of, raw_signal};
+ghost use Rattle.cell_build.specs.Names.{number_of, phase_names, set_of};
 ghost use Rattle.network_file.specs.Range.{IsSignalInRange};
 
 use crate::by_name::{Signals, phase_place};
@@ -78,8 +77,8 @@ fn phase_built(signal: &RawSignal, phase: &RawPhase) -> Phase
 /// The phases of a signal.
 fn phases_of(alloc: Global, signal: &RawSignal) -> Result<Listed<Phase>, Memory>
     requires { length signal.now.phases ≤ 8 }
-    ensures { IfOk result (λ phases. phases ≡ table_of (length signal.now.phases)
-        (λ p. phase_built (phase_names signal.now) (raw_phase signal.now p))) }
+    ensures { IfOk result (λ phases. phases
+        ≡ map (phase_built (phase_names signal.now)) signal.now.phases) }
 {
     let mut phases = Listed::new(alloc);
     for phase in signal.phases.as_slice() {
@@ -103,8 +102,7 @@ fn signal_built(alloc: Global, signal: &RawSignal) -> Result<Signal, Memory>
 /// The signals of a network.
 pub(crate) fn signals_of(alloc: Global, signals: &[RawSignal]) -> Result<Listed<Signal>, Memory>
     requires { All IsSignalInRange signals.now }
-    ensures { IfOk result (λ built. built ≡ table_of (length signals.now)
-        (λ s. signal_built (raw_signal signals.now s))) }
+    ensures { IfOk result (λ built. built ≡ map signal_built signals.now) }
 {
     let mut built = Listed::new(alloc);
     for signal in signals {

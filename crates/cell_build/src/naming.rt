@@ -1,9 +1,10 @@
 //! The names that a file gives, and the places of its cells.
 
-ghost use Rattle.std.specs.Prelude.{◌≡◌, ◌≤◌, ◌++◌, length, map, Some, All, IfOk, OnOk};
+ghost use Rattle.std.specs.Prelude.{◌≡◌, ◌≤◌, ◌++◌, length, map, None, Some, All, IfOk, OnOk};
 ghost use Rattle.listed.specs.Below.{table_of};
+ghost use Rattle.cell_build.specs.Link.{where_demand};
 ghost use Rattle.cell_build.specs.Names.{link_names};
-ghost use Rattle.cell_build.specs.Naming.{names_of, names_of_signal, places_of, places_of_link, queue_place};
+ghost use Rattle.cell_build.specs.Naming.{names_of, names_of_signal, places_of, places_of_link};
 ghost use Rattle.network_file.specs.Range.{IsLinkInRange};
 
 use crate::cell_numbers::count_of_cells;
@@ -95,7 +96,8 @@ fn add_places(places: &mut Listed<Place>, k: u32, link: &RawLink) -> Result<(), 
 
 /// Adds the place of the queue of link k, where it has demand.
 fn add_queue_place(places: &mut Listed<Place>, k: u32, pieces: &[Piece]) -> Result<(), Memory>
-    ensures { OnOk result (places.new ≡ places.old ++ queue_place k pieces.now) }
+    ensures { OnOk result (places.new
+        ≡ places.old ++ where_demand pieces.now (record { link = k; road = None })) }
 {
     if let [_, ..] = pieces {
         places.push(Place {

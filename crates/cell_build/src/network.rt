@@ -10,7 +10,7 @@ ghost use Rattle.cell_build.specs.Refusals.{faults_of};
 ghost use Rattle.network_file.specs.Range.{IsInRange};
 
 use crate::by_name::Numbered;
-use crate::cell_numbers::{count_of_cells, first_cells};
+use crate::cell_numbers::{count_of_cells, first_roads};
 use crate::gate::{gate_of, signals_of};
 use crate::link::{add_queue, add_road};
 use crate::out::out_of;
@@ -28,7 +28,7 @@ pub(crate) fn net_of(
     requires demands { demands.old ≡ demands_of raw.now.steps raw.now.links }
     ensures { IfOk result (λ net. net ≡ (named_of raw.now).net) }
 {
-    let firsts = first_cells(alloc, raw.links.as_slice())?;
+    let firsts = first_roads(alloc, raw.links.as_slice())?;
     let cells = cells_of(alloc, raw, firsts.as_slice(), demands)?;
     let signals = signals_of(alloc, raw.signals.as_slice())?;
     Ok(Net {

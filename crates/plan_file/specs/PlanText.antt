@@ -21,6 +21,7 @@ block_text names runs = codes "signal " ++ names.name ++ codes "\n" ++ flat_map 
 abbrev pub runs_at : List (List Run) → ℕ → List Run
 runs_at blocks s = slice_index_or blocks s []
 
+-- the text of the runs of all signals: line 1, the blocks in the order of the signals, and `end`
 unfoldable pub text_by : NameTable → List (List Run) → List ℕ
 text_by names blocks = codes "ctm-plan 1\n" ++ join_below (length names.signals) (λ s. block_text (signal_names_at names s) (runs_at blocks s)) ++ codes "end\n"
 

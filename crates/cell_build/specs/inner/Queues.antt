@@ -1,6 +1,5 @@
 -- The demand of each link, which is judged and then built.
-use Rattle.std.specs.Prelude.{ℕ, List, [], ◌∷◌, length, Option, Some, None}
-use Rattle.listed.specs.Below.{table_of}
+use Rattle.std.specs.Prelude.{ℕ, List, [], ◌∷◌, map, Option, Some, None}
 use Rattle.ct_base.specs.declared.cell.Cell.{Cell}
 use Rattle.ct_base.specs.declared.cell.Out.TheVariants.{To}
 use Rattle.demand.specs.declared.piece.Piece.{Piece}
@@ -11,7 +10,6 @@ use Rattle.demand.specs.declared.fault.DemandFault.TheVariants as demand
 use Rattle.cell_build.specs.declared.fault.BuildFault.{BuildFault}
 use Rattle.cell_build.specs.declared.fault.BuildFault.TheVariants.{Demand, Memory}
 use Rattle.cell_build.specs.Link.{queue_to}
-use Rattle.cell_build.specs.Names.{raw_link}
 
 -- the demand of a link's queue, where there is a piece
 abbrev pub queue_demand : ℕ → List Piece → Option (List ℕ)
@@ -20,7 +18,7 @@ queue_demand steps (piece ∷ pieces) = Some (rates_of (piece ∷ pieces) steps)
 
 -- that of each link
 abbrev pub demands_of : ℕ → List RawLink → List (Option (List ℕ))
-demands_of steps links = table_of (length links) (λ k. queue_demand steps (raw_link links k).pieces)
+demands_of steps links = map (λ (link : RawLink). queue_demand steps link.pieces) links
 
 -- the queue that a demand arrives at, which leads to the road cell after it
 abbrev pub queue_with : ℕ → Option (List ℕ) → RawLink → List Cell

@@ -1,10 +1,10 @@
 //! The rules `fed` and `openmerge`: a link that is led into has no demand of its own, and where several lead in, they are
 //! apart by greens of one signal.
 
-ghost use Rattle.std.specs.Prelude.{◌≡◌, ◌≢◌, ◌<◌, ◌≤◌, not, length, map, None, All};
-ghost use Rattle.std.specs.List.{list_all};
+ghost use Rattle.std.specs.Prelude.{◌≡◌, ◌≢◌, ◌<◌, ◌≤◌, length, map, None, All};
+ghost use Rattle.std.specs.List.{list_all, list_any};
 ghost use Rattle.cell_build.specs.Link.{gate_of};
-ghost use Rattle.cell_build.specs.Refusals.{are_apart, fed, fed_at, feeders, is_apart, is_empty, open_merge, open_merge_at};
+ghost use Rattle.cell_build.specs.Refusals.{are_apart, fed, fed_at, feeders, is_apart, leads_to, open_merge, open_merge_at};
 ghost use Rattle.refusals.specs.Faults.{unless};
 ghost use Rattle.network_file.specs.Range.{IsSignalInRange};
 
@@ -39,9 +39,8 @@ fn fed_at(links: &[RawLink], k: u32, link: &RawLink) -> Result<(), BuildFault>
 }
 
 /// Whether some link leads to the one of this name.
-#[tactic(auto, using(crate::proofs::MergeLists::some_feeder))]
 fn is_led_into(links: &[RawLink], name: &str) -> bool
-    ensures { result ≡ not (is_empty (feeders links.now name.now)) }
+    ensures { result ≡ list_any (λ feeder. leads_to feeder name.now) links.now }
 {
     links.iter().any(|link| leads_to(link, name))
 }
@@ -80,7 +79,6 @@ fn open_merge_at(
 }
 
 /// Whether of the links that lead to the one of this name each two are apart. Each is compared with those after it.
-#[tactic(auto, using(crate::proofs::MergeLists::apart_of_next))]
 fn are_apart(signals: &Signals<'_>, links: &[RawLink], name: &str) -> bool
     requires few_signals { length signals.now ≤ 16 }
     requires in_range { All IsSignalInRange signals.now }
@@ -90,15 +88,17 @@ fn are_apart(signals: &Signals<'_>, links: &[RawLink], name: &str) -> bool
     match links {
         [] => true,
         [link, later @ ..] => {
-            (!leads_to(link, name)
-                || is_apart_from_all(gate_of(signals, link), signals, later, name))
-                && are_apart(signals, later, name)
+            if leads_to(link, name) {
+                is_apart_from_all(gate_of(signals, link), signals, later, name)
+                    && are_apart(signals, later, name)
+            } else {
+                are_apart(signals, later, name)
+            }
         }
     }
 }
 
 /// Whether the gate is apart from those of all links that lead to the one of this name.
-#[tactic(auto, using(crate::proofs::MergeLists::all_of_next))]
 fn is_apart_from_all(
     gate: Option<Gate>,
     signals: &Signals<'_>,
@@ -113,8 +113,12 @@ fn is_apart_from_all(
     match links {
         [] => true,
         [link, later @ ..] => {
-            (!leads_to(link, name) || is_apart(gate, gate_of(signals, link)))
-                && is_apart_from_all(gate, signals, later, name)
+            if leads_to(link, name) {
+                is_apart(gate, gate_of(signals, link))
+                    && is_apart_from_all(gate, signals, later, name)
+            } else {
+                is_apart_from_all(gate, signals, later, name)
+            }
         }
     }
 }

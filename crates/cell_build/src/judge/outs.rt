@@ -1,6 +1,6 @@
 //! The rules `outboth`, `itself` and `twiceturn`: a link does not lead in two ways at once, to itself, or twice to one.
 
-ghost use Rattle.std.specs.Prelude.{◌≡◌, ◌≤◌, length, map, take, All};
+ghost use Rattle.std.specs.Prelude.{◌≡◌, ◌≤◌, length, take, All};
 ghost use Rattle.std.specs.List.{list_any};
 ghost use Rattle.std.specs.Str.{bytes_eq};
 ghost use Rattle.cell_build.specs.Names.{name_in};
@@ -75,9 +75,8 @@ fn is_name(to: &Option<Name>, name: &str) -> bool
 }
 
 /// Whether a branch leads to the link of this name.
-#[tactic(auto, using(crate::proofs::NameLaws::list_any_turns))]
 fn is_among(turns: &[(Name, u32)], name: &str) -> bool
-    ensures { result ≡ list_any (bytes_eq name.now) (map (λ turn. turn.0) turns.now) }
+    ensures { result ≡ list_any (λ turn. bytes_eq name.now turn.0) turns.now }
 {
     turns.iter().any(|turn| name == turn.0.as_str())
 }

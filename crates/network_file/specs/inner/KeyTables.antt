@@ -37,9 +37,10 @@ range_of (Wholes most low high) = wholes most low high
 range_of (Texts low high) = count low high
 range_of (Tables low high) = count low high
 
--- a key, and the keys of a table
+-- a key that is listed, as the reading of documents takes it
 abbrev pub key_of : Listed → Key
 key_of listed = key listed.name.now (need_of listed.need) (type_of listed.kind) (range_of listed.kind)
 
+-- the keys that are listed for one table
 abbrev pub keys_of : List Listed → List Key
 keys_of keys = map key_of keys

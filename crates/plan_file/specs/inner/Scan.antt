@@ -35,6 +35,7 @@ abbrev pub with_word : ℕ → List (List Letter) → Result (List Letter) RunFa
 with_word n words (Ok word) = Ok (record { words = words ++ word ∷ []; is_open = false; runs = [] })
 with_word n words (Err fault) = Err (RunAt n fault)
 
+-- the open block, where there is one, is ended and becomes a word
 abbrev pub closed : Named → ℕ → Progress → Result Progress PlanFault
 closed named n progress =
     if progress.is_open
@@ -49,6 +50,7 @@ begun named n name progress = unless (signal_faults named n name (length progres
 abbrev pub with_run : Named → Progress → List ℕ → ℕ → List Run
 with_run named progress phase green = progress.runs ++ run_named (signal_names_at named.names (length progress.words)).phases phase green ∷ []
 
+-- a run is added to the open block; a run outside a block is a line of no form
 abbrev pub ran : Named → ℕ → List ℕ → ℕ → Progress → Result Progress PlanFault
 ran named n phase green progress =
     if progress.is_open

@@ -2,7 +2,7 @@ use Rattle.std.proofs.Common.{◌≡◌, [], get_or, refl, ap, sym, ◌∙◌, a
 use Rattle.std.proofs.lemmas.List.{get_or-map, length-map}
 use Rattle.network_file.specs.declared.raw.RawSignal.{RawSignal}
 use Rattle.cell_build.specs.Names.{signal_names, no_signal}
-use Rattle.cell_build.specs.Numbered.{texts}
+use Rattle.cell_build.specs.inner.Numbered.{texts}
 use Rattle.cell_build.proofs.NumberedLaws.{one_name_more}
 use Rattle.cell_build.proofs.TableSteps.{item_at}
 use Rattle.cell_build.proofs.by_name.names_of_signals.Goals as goal
