@@ -1,13 +1,13 @@
 -- That what was found and carried out keeps what a command promises.
-use Rattle.std.proofs.Common.{◌≡◌, ℕ, ◌≤◌, ◌⊎◌, inl, inr, Bool, true, false, if◌then◌else◌, List, [], ◌∷◌, map, Option, Some, None, Result, Ok, Err, IfSome, Contains, refl, ap, sym, ◌∙◌, subst, arith}
-use Rattle.shelf_io.specs.Told.{Files, Rises, ShelfState, SinkState, StopsInText, read_failed, with_taken}
+use Rattle.std.proofs.Common.{◌≡◌, ℕ, ◌≤◌, ◌⊎◌, inl, inr, true, false, if◌then◌else◌, List, Option, Some, None, Result, Ok, Err, IfSome, Contains, refl, ap, sym, ◌∙◌, subst, arith}
+use Rattle.shelf_io.specs.Told.{Files, Rises, ShelfState, SinkState, StopsInText}
 use Rattle.shelf_io.specs.declared.file_map.File.{File}
 use Rattle.signal_cli.specs.inner.Causes.{CarriesOut, Finds}
 use Rattle.signal_cli.specs.Faults.{line_of, outcome_status, reply_status, status_of}
 use Rattle.signal_cli.specs.Promises.{Answered, FailedToRead, FailedToWrite, KeepsReply, Refused, WantedMemory, statuses_of_commands}
-use Rattle.signal_cli.specs.Worlds.{ForFiles, ForTold, NoneFailed, PutsAsFar, StopsInFiles, Untouched, World, with_files, world}
+use Rattle.signal_cli.specs.Worlds.{ForFiles, ForTold, PutsAsFar, StopsInFiles, World, with_files, world}
 use Rattle.signal_cli.specs.declared.fault.Fault.{Fault}
-use Rattle.signal_cli.specs.declared.fault.Fault.TheVariants.{NetworkLong, Network, PlanLong, Plan, Read, Memory}
+use Rattle.signal_cli.specs.declared.fault.Fault.TheVariants.{NetworkLong, Network, PlanLong, Plan, TooLarge, Read, Memory}
 use Rattle.signal_cli.specs.declared.reply.Reply.{Reply}
 use Rattle.signal_cli.proofs.Unnamed.{names_of, same_writes, untouched_read, untouched_shelf, untouched_stopped, untouched_written}
 
@@ -148,3 +148,4 @@ module _ (Deserves : Files → Result Reply Fault → Type 0) (outputs : List (L
   keeps (Err (Network fault)) middle status found carried = keeps-fault (Network fault) status (2, omega arith, refl) (omega arith) (omega arith) middle found.0 found.1 carried
   keeps (Err PlanLong) middle status found carried = keeps-fault PlanLong status (3, omega arith, refl) (omega arith) (omega arith) middle found.0 found.1 carried
   keeps (Err (Plan fault)) middle status found carried = keeps-fault (Plan fault) status (3, omega arith, refl) (omega arith) (omega arith) middle found.0 found.1 carried
+  keeps (Err (TooLarge rows)) middle status found carried = keeps-fault (TooLarge rows) status (4, omega arith, refl) (omega arith) (omega arith) middle found.0 found.1 carried

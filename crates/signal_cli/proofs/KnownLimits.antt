@@ -1,6 +1,7 @@
 -- The limits again as they stand on the page (docs/LIMITS.md): whoever changes one changes it here too, and knows it.
 use Rattle.std.proofs.Common.{◌≡◌, refl}
 use Rattle.limits.specs.declared.TheConstants.{MAX_FILE_BYTES, MAX_NAME_BYTES, GREEN_DIGITS, MAX_STEPS, MAX_LINKS, MAX_CELLS, MAX_SIGNALS, MIN_PHASES, MAX_PHASES, MAX_NAMED_PHASES, MAX_GREEN, MAX_CLEAR, MAX_CAPACITY, MAX_STORAGE, MAX_WAVE, MAX_DEMAND, MIN_BRANCHES, MAX_BRANCHES, MAX_PARCEL}
+use Rattle.sparse_program.specs.declared.limits.TheConstants.{MAX_ROWS}
 
 pub max_file_bytes : MAX_FILE_BYTES ≡ 1048576
 max_file_bytes = refl
@@ -58,3 +59,6 @@ max_branches = refl
 
 pub max_parcel : MAX_PARCEL ≡ 100
 max_parcel = refl
+
+pub max_rows : MAX_ROWS ≡ 400000
+max_rows = refl

@@ -1,11 +1,12 @@
 -- A reply that a command deserves writes the outputs of the command, and no other files.
-use Rattle.std.proofs.Common.{◌≡◌, ℕ, List, [], ◌∷◌, Option, Some, None, Result, Ok, Err, refl, ap, sym}
+use Rattle.std.proofs.Common.{◌≡◌, ℕ, List, [], ◌∷◌, Some, None, Result, Ok, Err, ap, sym}
 use Rattle.shelf_io.specs.Told.{Files}
 use Rattle.ct_base.specs.declared.net.Net.{Net}
 use Rattle.ct_base.specs.declared.signal.Signal.{Signal}
 use Rattle.named_net.specs.Naming.{Named}
-use Rattle.signal_cli.specs.Answers.{◌>>=◌, Deserves, network_in, planned_in, printed, replay_alone, replay_lines, trace_reply}
-use Rattle.signal_cli.specs.Commands.{Command, Replay, Trace, outputs_of}
+use Rattle.program_model.specs.Points.{program_of}
+use Rattle.signal_cli.specs.Answers.{◌>>=◌, Deserves, network_in, planned_in, point_reply, printed, program_reply, replay_alone, replay_lines, sized_in, sized_planned_in, trace_reply}
+use Rattle.signal_cli.specs.Commands.{Command, Encode, Program, Replay, Trace, outputs_of}
 use Rattle.signal_cli.specs.declared.fault.Fault.{Fault}
 use Rattle.signal_cli.specs.declared.input.Planned.{Planned}
 use Rattle.signal_cli.specs.declared.reply.Reply.{Reply}
@@ -33,3 +34,7 @@ outputs_are_named (Replay network (Some plan)) files reply is =
     at_the_end (planned_in files network plan) (λ (planned : Planned). Ok (printed (replay_lines planned.named.net planned.plan.words))) [] (λ planned reply is. known_reply (printed (replay_lines planned.named.net planned.plan.words)) reply is) reply is
 outputs_are_named (Trace network plan table) files reply is =
     at_the_end (planned_in files network plan) (λ (planned : Planned). Ok (trace_reply table planned)) (table ∷ []) (λ planned reply is. known_reply (trace_reply table planned) reply is) reply is
+outputs_are_named (Program network text) files reply is =
+    at_the_end (sized_in files network) (λ (named : Named). Ok (program_reply text (program_of named.net))) (text ∷ []) (λ named reply is. known_reply (program_reply text (program_of named.net)) reply is) reply is
+outputs_are_named (Encode network plan text) files reply is =
+    at_the_end (sized_planned_in files network plan) (λ (planned : Planned). Ok (point_reply text planned)) (text ∷ []) (λ planned reply is. known_reply (point_reply text planned) reply is) reply is

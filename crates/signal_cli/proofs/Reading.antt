@@ -1,5 +1,5 @@
 -- What a part of a command found by reading, as what the files deserve.
-use Rattle.std.proofs.Common.{◌≡◌, ℕ, ◌≤◌, ◌<◌, ◌+◌, ◌⊎◌, inl, inr, subst, Bool, true, false, cond, if◌then◌else◌, nat_lt, List, [], ◌∷◌, length, replicate, Option, Some, None, MatchOption, Result, Ok, Err, refl, ap, sym, ◌∙◌, arith}
+use Rattle.std.proofs.Common.{◌≡◌, ℕ, ◌≤◌, ◌<◌, ◌+◌, inl, inr, subst, Bool, true, false, cond, if◌then◌else◌, nat_lt, List, length, replicate, Option, Some, None, MatchOption, Result, Ok, Err, refl, ap, sym, ◌∙◌, arith}
 use Rattle.std.proofs.lemmas.Bool.Decides.{nat_tests}
 use Rattle.std.proofs.lemmas.List.{length-replicate}
 use Rattle.std.proofs.lemmas.Slice.Eq.{bytes_eq-Decides}
@@ -7,18 +7,18 @@ use Rattle.std.specs.FinMap as map
 use Rattle.std.specs.Str.{bytes_eq}
 use Rattle.ct_base.specs.declared.plan.Plan.{Plan}
 use Rattle.named_net.specs.Naming.{Named}
-use Rattle.shelf_io.specs.Told.{Files, IfTold, IsMissing, FailsToRead, ShelfState, bytes_of, read_failed}
+use Rattle.shelf_io.specs.Told.{Files, IfTold, IsMissing, FailsToRead, ShelfState, bytes_of}
 use Rattle.shelf_io.proofs.Growing.{get_same}
 use Rattle.shelf_io.proofs.NamedFiles.{get_inserted}
 use Rattle.limits.specs.declared.TheConstants.{MAX_FILE_BYTES}
-use Rattle.signal_cli.specs.Answers.{◌>>=◌, content_in, content_of, found, network_from, network_in, plan_from, plan_in, planned_in}
+use Rattle.signal_cli.specs.Answers.{◌>>=◌, content_in, content_of, found, network_from, network_in, plan_from, plan_in, sized, sized_in, with_plan}
 use Rattle.shelf_io.specs.Front.{EndsReading}
 use Rattle.shelf_io.specs.declared.whole_file.ReadAll.{ReadAll}
 use Rattle.shelf_io.specs.declared.whole_file.ReadAll.TheVariants as ended
 use Rattle.signal_cli.specs.inner.Causes.{Finds, Gives, ended_as}
 use Rattle.signal_cli.specs.Worlds.{ForFiles, ForTold}
 use Rattle.signal_cli.specs.declared.fault.Fault.{Fault}
-use Rattle.signal_cli.specs.declared.fault.Fault.TheVariants.{NetworkLong, Network, PlanLong, Plan as PlanRefused, Read, Memory}
+use Rattle.signal_cli.specs.declared.fault.Fault.TheVariants.{Read, Memory}
 use Rattle.signal_cli.specs.declared.input.Content.{Content}
 use Rattle.signal_cli.specs.declared.input.Content.TheVariants.{TooLong, Whole}
 use Rattle.signal_cli.specs.declared.input.Planned.{Planned}
@@ -100,14 +100,14 @@ found_then g next x (Ok y) before after read given =
 found_then g next x (Err fault) before after read given =
     (read.0, for_files before.files (λ files. g files ≡ Ok x) (λ files. (g files >>= next) ≡ Err fault) (λ files seen. ap (λ r. r >>= next) seen ∙ given) read.1)
 
--- a fault ends a chain
-pub found_fault : {X Y : Type 0} (g : Files → Result X Fault) (next : X → Result Y Fault) (fault : Fault) (before after : ShelfState) → Finds (λ files outcome. g files ≡ outcome) (Err fault) before after → Finds (λ files outcome. (g files >>= next) ≡ outcome) (Err fault) before after
+-- a fault ends a chain, whatever else would be read
+pub found_fault : {X Y : Type 0} (g : Files → Result X Fault) (next : Files → X → Result Y Fault) (fault : Fault) (before after : ShelfState) → Finds (λ files outcome. g files ≡ outcome) (Err fault) before after → Finds (λ files outcome. (g files >>= next files) ≡ outcome) (Err fault) before after
 found_fault g next Memory before after read = read
 found_fault g next Read before after (inl counted) = inl counted
 found_fault g next Read before after (inr missing) =
-    inr (missing.0, for_told before.files (λ files. g files ≡ Err Read) (λ files. (g files >>= next) ≡ Err Read) (λ files seen. ap (λ r. r >>= next) seen) missing.1)
+    inr (missing.0, for_told before.files (λ files. g files ≡ Err Read) (λ files. (g files >>= next files) ≡ Err Read) (λ files seen. ap (λ r. r >>= next files) seen) missing.1)
 found_fault g next fault before after read =
-    (read.0, for_files before.files (λ files. g files ≡ Err fault) (λ files. (g files >>= next) ≡ Err fault) (λ files seen. ap (λ r. r >>= next) seen) read.1)
+    (read.0, for_files before.files (λ files. g files ≡ Err fault) (λ files. (g files >>= next files) ≡ Err fault) (λ files seen. ap (λ r. r >>= next files) seen) read.1)
 
 -- Two files.
 
@@ -121,49 +121,82 @@ differ_too a b differ = by_test (bytes_eq b a) refl
         let same : bytes_eq a b ≡ true = (bytes_eq-Decides a b).1 (sym ((bytes_eq-Decides b a).0 is)) in
         cc
 
--- the network of one file and the plan of another, where files are not told: some files hold both
-joined : (network plan : List ℕ) → bytes_eq plan network ≡ false → (named : Named) (outcome : Result Plan Fault) (seen : Option (List ℕ)) → (found MAX_FILE_BYTES seen >>= network_from) ≡ Ok named → (files : Files) → plan_in named files plan ≡ outcome → (files : Files) × (planned_in files network plan ≡ (outcome >>= (λ (plan : Plan). Ok (record { named = named; plan = plan }))))
-joined network plan differ named outcome None spelled files deserved = absurd (cc)
-joined network plan differ named outcome (Some bytes) spelled files deserved =
-    let both : Files = map.insert files network bytes in
-    let network_is : network_in both network ≡ Ok named = ap (λ (seen : Option (List ℕ)). found MAX_FILE_BYTES seen >>= network_from) (get_same files network bytes) ∙ spelled in
-    let plan_is : plan_in named both plan ≡ outcome =
-    ap (λ (seen : Option (List ℕ)). found MAX_FILE_BYTES seen >>= plan_from named) (get_inserted files network bytes plan ∙ ap (λ (test : Bool). cond test (Some bytes) (map.get files plan)) differ) ∙ deserved in (
-      both,
-      ap (λ (made : Result Named Fault). made >>= (λ (named : Named). plan_in named both plan >>= (λ (plan : Plan). Ok (record { named = named; plan = plan })))) network_is
-          ∙ ap (λ (made : Result Plan Fault). made >>= (λ (plan : Plan). Ok (record { named = named; plan = plan }))) plan_is,
+-- what g finds it finds beside whatever other files hold, but for the file with this name
+abbrev pub Beside : {X : Type 0} → (Files → Result X Fault) → List ℕ → Type 0
+Beside {X} g name = (x : X) (there other : Files) → g there ≡ Ok x → (both : Files) × (g both ≡ Ok x) × ((apart : List ℕ) → bytes_eq apart name ≡ false → bytes_of both apart ≡ bytes_of other apart)
+
+-- what one file holds, judged
+beside_others : {X : Type 0} (name : List ℕ) (limit : ℕ) (judge : Content → Result X Fault) → Beside (λ files. content_in files name limit >>= judge) name
+beside_others {X} name limit judge x there other is = by_seen (bytes_of there name) is
+  where
+    by_seen : (seen : Option (List ℕ)) → (found limit seen >>= judge) ≡ Ok x → (both : Files) × ((content_in both name limit >>= judge) ≡ Ok x) × ((apart : List ℕ) → bytes_eq apart name ≡ false → bytes_of both apart ≡ bytes_of other apart)
+    by_seen None is = absurd (cc)
+    by_seen (Some bytes) is = (
+      map.insert other name bytes,
+      ap (λ (seen : Option (List ℕ)). found limit seen >>= judge) (get_same other name bytes) ∙ is,
+      λ apart differ. get_inserted other name bytes apart ∙ ap (λ (test : Bool). cond test (Some bytes) (map.get other apart)) differ,
     )
 
-planned_seen : (told : Option Files) (network plan : List ℕ) → bytes_eq network plan ≡ false → (named : Named) (outcome : Result Plan Fault) → ForFiles told (λ files. network_in files network ≡ Ok named) → ForFiles told (λ files. plan_in named files plan ≡ outcome) → ForFiles told (λ files. planned_in files network plan ≡ (outcome >>= (λ (plan : Plan). Ok (record { named = named; plan = plan }))))
-planned_seen None network plan differ named outcome (first, is_first) (second, is_second) =
-    joined network plan (differ_too network plan differ) named outcome (bytes_of first network) is_first second is_second
-planned_seen (Some files) network plan differ named outcome is_first is_second =
-    ap (λ (made : Result Named Fault). made >>= (λ (named : Named). plan_in named files plan >>= (λ (plan : Plan). Ok (record { named = named; plan = plan })))) is_first
-    ∙ ap (λ (made : Result Plan Fault). made >>= (λ (plan : Plan). Ok (record { named = named; plan = plan }))) is_second
-
-planned_told : (told : Option Files) (network plan : List ℕ) (named : Named) → ForFiles told (λ files. network_in files network ≡ Ok named) → ForTold told (λ files. plan_in named files plan ≡ Err Read) → ForTold told (λ files. planned_in files network plan ≡ Err Read)
-planned_told None network plan named is_first is_second = is_second
-planned_told (Some files) network plan named is_first is_second =
-    ap (λ (made : Result Named Fault). made >>= (λ (named : Named). plan_in named files plan >>= (λ (plan : Plan). Ok (record { named = named; plan = plan })))) is_first
-    ∙ ap (λ (made : Result Plan Fault). made >>= (λ (plan : Plan). Ok (record { named = named; plan = plan }))) is_second
-
--- what two readings found, of which the second began where the first left the shelf
-pub planned_found : (network plan : List ℕ) → bytes_eq network plan ≡ false → (named : Named) (outcome : Result Plan Fault) (before middle after : ShelfState) → Finds (λ files made. network_in files network ≡ made) (Ok named) before middle → Finds (λ files made. plan_in named files plan ≡ made) outcome middle after → Finds (λ files made. planned_in files network plan ≡ made) (outcome >>= (λ (plan : Plan). Ok (record { named = named; plan = plan }))) before after
-planned_found network plan differ named outcome before middle after first second =
-    from_start outcome (let P : ShelfState → Type 0 = λ shelf. Finds (λ files made. plan_in named files plan ≡ made) outcome shelf after in subst P first.0 second)
+-- what follows from it without a further read
+beside_then : {X Y : Type 0} (g : Files → Result X Fault) (next : X → Result Y Fault) (name : List ℕ) → Beside g name → Beside (λ files. g files >>= next) name
+beside_then {X} {Y} g next name beside y there other is = by_found (g there) refl is
   where
-    from_start : (outcome : Result Plan Fault) → Finds (λ files made. plan_in named files plan ≡ made) outcome before after → Finds (λ files made. planned_in files network plan ≡ made) (outcome >>= (λ (plan : Plan). Ok (record { named = named; plan = plan }))) before after
-    from_start (Err Memory) second = second
-    from_start (Err Read) (inl counted) = inl counted
-    from_start (Err Read) (inr missing) = inr (missing.0, planned_told before.files network plan named first.1 missing.1)
-    from_start (Ok made) second = (second.0, planned_seen before.files network plan differ named (Ok made) first.1 second.1)
-    from_start (Err fault) second = (second.0, planned_seen before.files network plan differ named (Err fault) first.1 second.1)
+    by_found : (made : Result X Fault) → g there ≡ made → (made >>= next) ≡ Ok y → (both : Files) × ((g both >>= next) ≡ Ok y) × ((apart : List ℕ) → bytes_eq apart name ≡ false → bytes_of both apart ≡ bytes_of other apart)
+    by_found (Err fault) found is = absurd (cc)
+    by_found (Ok x) found is =
+        let joined = beside x there other found in
+        (joined.0, ap (λ (made : Result X Fault). made >>= next) joined.1 ∙ is, joined.2)
 
--- where the network is at fault, the plan is not read
-pub planned_fault : (network plan : List ℕ) (fault : Fault) (before after : ShelfState) → Finds (λ files made. network_in files network ≡ made) (Err fault) before after → Finds (λ files made. planned_in files network plan ≡ made) (Err fault) before after
-planned_fault network plan Memory before after first = first
-planned_fault network plan Read before after (inl counted) = inl counted
-planned_fault network plan Read before after (inr missing) =
-    inr (missing.0, for_told before.files (λ files. network_in files network ≡ Err Read) (λ files. planned_in files network plan ≡ Err Read) (λ files seen. ap (λ (made : Result Named Fault). made >>= (λ (named : Named). plan_in named files plan >>= (λ (plan : Plan). Ok (record { named = named; plan = plan })))) seen) missing.1)
-planned_fault network plan fault before after first =
-    (first.0, for_files before.files (λ files. network_in files network ≡ Err fault) (λ files. planned_in files network plan ≡ Err fault) (λ files seen. ap (λ (made : Result Named Fault). made >>= (λ (named : Named). plan_in named files plan >>= (λ (plan : Plan). Ok (record { named = named; plan = plan })))) seen) first.1)
+-- the network in a file
+pub network_beside : (name : List ℕ) → Beside (λ files. network_in files name) name
+network_beside name = beside_others name MAX_FILE_BYTES network_from
+
+-- the network in a file, its size judged
+pub sized_beside : (name : List ℕ) → Beside (λ files. sized_in files name) name
+sized_beside name = beside_then (λ files. network_in files name) sized name (network_beside name)
+
+-- what g finds by one file, and what is made of it and of what the file `other` holds
+module _ {X Y : Type 0} (g : Files → Result X Fault) (name : List ℕ) (beside : Beside g name) (x : X) (next : Files → X → Result Y Fault) (other : List ℕ) (differ : bytes_eq name other ≡ false) (of_other : (a b : Files) → bytes_of a other ≡ bytes_of b other → next a x ≡ next b x) where
+  both_seen : (told : Option Files) (outcome : Result Y Fault) → ForFiles told (λ files. g files ≡ Ok x) → ForFiles told (λ files. next files x ≡ outcome) → ForFiles told (λ files. (g files >>= next files) ≡ outcome)
+  both_seen None outcome (there, is_first) (elsewhere, is_second) =
+      let joined = beside x there elsewhere is_first in (
+        joined.0,
+        ap (λ (made : Result X Fault). made >>= next joined.0) joined.1
+            ∙ of_other joined.0 elsewhere (joined.2 other (differ_too name other differ))
+            ∙ is_second,
+      )
+  both_seen (Some files) outcome is_first is_second = ap (λ (made : Result X Fault). made >>= next files) is_first ∙ is_second
+
+  other_missing : (told : Option Files) → ForFiles told (λ files. g files ≡ Ok x) → ForTold told (λ files. next files x ≡ Err Read) → ForTold told (λ files. (g files >>= next files) ≡ Err Read)
+  other_missing None is_first is_second = is_second
+  other_missing (Some files) is_first is_second = ap (λ (made : Result X Fault). made >>= next files) is_first ∙ is_second
+
+  -- what two readings found, of which the second began where the first left the shelf
+  pub found_next : (outcome : Result Y Fault) (before middle after : ShelfState) → Finds (λ files made. g files ≡ made) (Ok x) before middle → Finds (λ files made. next files x ≡ made) outcome middle after → Finds (λ files made. (g files >>= next files) ≡ made) outcome before after
+  found_next outcome before middle after first second =
+      from_start outcome (let P : ShelfState → Type 0 = λ shelf. Finds (λ files made. next files x ≡ made) outcome shelf after in subst P first.0 second)
+    where
+      from_start : (outcome : Result Y Fault) → Finds (λ files made. next files x ≡ made) outcome before after → Finds (λ files made. (g files >>= next files) ≡ made) outcome before after
+      from_start (Err Memory) second = second
+      from_start (Err Read) (inl counted) = inl counted
+      from_start (Err Read) (inr missing) = inr (missing.0, other_missing before.files first.1 missing.1)
+      from_start (Ok made) second = (second.0, both_seen before.files (Ok made) first.1 second.1)
+      from_start (Err fault) second = (second.0, both_seen before.files (Err fault) first.1 second.1)
+
+-- a network and a plan
+abbrev planned : Named → Plan → Planned
+planned named plan = record { named = named; plan = plan }
+
+-- the plan behind a network that was found
+behind : (named : Named) (plan : List ℕ) (outcome : Result Plan Fault) (before after : ShelfState) → Finds (λ files made. plan_in named files plan ≡ made) outcome before after → Finds (λ files made. with_plan (Ok named) files plan ≡ made) (outcome >>= (λ (plan : Plan). Ok (planned named plan))) before after
+behind named plan (Ok made) before after second =
+    found_then (λ files. plan_in named files plan) (λ (plan : Plan). Ok (planned named plan)) made (Ok (planned named made)) before after second refl
+behind named plan (Err fault) before after second =
+    found_fault (λ files. plan_in named files plan) (λ _ (plan : Plan). Ok (planned named plan)) fault before after second
+
+-- a network that g finds by one file, and the plan for it in another
+pub planned_found : (g : Files → Result Named Fault) (network : List ℕ) → Beside g network → (plan : List ℕ) → bytes_eq network plan ≡ false → (named : Named) (outcome : Result Plan Fault) (before middle after : ShelfState) → Finds (λ files made. g files ≡ made) (Ok named) before middle → Finds (λ files made. plan_in named files plan ≡ made) outcome middle after → Finds (λ files made. with_plan (g files) files plan ≡ made) (outcome >>= (λ (plan : Plan). Ok (planned named plan))) before after
+planned_found g network beside plan differ named outcome before middle after first second =
+    found_next g network beside named (λ files (named : Named). with_plan (Ok named) files plan) plan differ
+    (λ a b same. ap (λ (seen : Option (List ℕ)). (found MAX_FILE_BYTES seen >>= plan_from named) >>= (λ (plan : Plan). Ok (planned named plan))) same)
+    (outcome >>= (λ (plan : Plan). Ok (planned named plan))) before middle after first (behind named plan outcome middle after second)

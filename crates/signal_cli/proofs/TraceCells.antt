@@ -1,5 +1,5 @@
 -- Each line of a trace is of a cell of the network.
-use Rattle.std.proofs.Common.{◌≡◌, ℕ, zero, suc, ◌+◌, ◌<◌, ◌≤◌, List, [], ◌∷◌, ◌++◌, length, All, subst, sym, ap, ◌∙◌, refl, add-one, arith}
+use Rattle.std.proofs.Common.{◌≡◌, ℕ, zero, suc, ◌<◌, ◌≤◌, List, length, All, subst, sym, ap, ◌∙◌, refl, add-one, arith}
 use Rattle.std.proofs.lemmas.List.Elements.{All-append, All-nil, All-push}
 use Rattle.listed.proofs.TableLaws.{table_of-suc, table_of-zero}
 use Rattle.listed.specs.Below.{table_of}

@@ -1,9 +1,9 @@
 -- Files that a run does not name as outputs, and counts, over what it writes and puts.
-use Rattle.std.proofs.Common.{◌≡◌, ℕ, ◌≤◌, ◌⊎◌, inl, inr, Bool, true, false, ◌||◌, cond, List, [], ◌∷◌, ◌++◌, map as mapped, Option, Some, None, option_map, refl, ap, sym, ◌∙◌, arith}
+use Rattle.std.proofs.Common.{◌≡◌, ℕ, ◌≤◌, inl, inr, Bool, true, false, ◌||◌, cond, List, [], ◌∷◌, ◌++◌, map as mapped, Option, Some, None, option_map, refl, ap, sym, ◌∙◌, arith}
 use Rattle.std.specs.List.{list_any}
 use Rattle.std.specs.Str.{bytes_eq}
 use Rattle.std.specs.FinMap as map
-use Rattle.shelf_io.specs.Told.{Files, ShelfState, SinkState, StopsInFile, StopsInText, bytes_of, read_failed, with_file}
+use Rattle.shelf_io.specs.Told.{Files, ShelfState, SinkState, StopsInFile, bytes_of, read_failed, with_file}
 use Rattle.shelf_io.specs.declared.file_map.File.{File}
 use Rattle.shelf_io.proofs.NamedFiles.{get_inserted}
 use Rattle.signal_cli.specs.Worlds.{PutsAsFar, StopsInFiles, Untouched, World, file_at, with_files}

@@ -1,6 +1,6 @@
 -- What a command deserves where the bytes of its files are told: a reply, or the first fault in the order of judging
 -- (README.md, "Statuses").
-use Rattle.std.specs.Prelude.{◌≡◌, ℕ, false, nat_lt, if◌then◌else◌, List, [], ◌∷◌, ◌++◌, length, Option, Some, None, Result, Ok, Err, codes}
+use Rattle.std.specs.Prelude.{◌≡◌, ℕ, ℤ, false, nat_lt, if◌then◌else◌, List, [], ◌∷◌, ◌++◌, length, Option, Some, None, Result, Ok, Err, codes}
 use Rattle.std.specs.Fmt.{decimal}
 use Rattle.limits.specs.declared.TheConstants.{MAX_FILE_BYTES}
 use Rattle.shelf_io.specs.Told.{Files, bytes_of}
@@ -15,9 +15,17 @@ use Rattle.cell_build.specs.declared.network_fault.NetworkFault.{NetworkFault}
 use Rattle.plan_file.specs.Spelled.{spelled_plan}
 use Rattle.plan_file.specs.declared.fault.PlanFault.{PlanFault}
 use Rattle.plan_file.specs.declared.fault.PlanFault.TheVariants.{Missing}
+use Rattle.sparse_program.specs.Program.{Parts}
+use Rattle.program_model.specs.Points.{point_of, program_of}
 use Rattle.cell_replay.specs.Trace.{trace_of}
+use Rattle.lo_program.specs.Compiled.{size_faults}
+use Rattle.lo_program.specs.declared.fault.CompileFault.{CompileFault}
 use Rattle.plan_report.specs.Table.{trace_text}
-use Rattle.signal_cli.specs.Commands.{Command, Replay, Trace}
+use Rattle.program_text.specs.PointText.{point_text}
+use Rattle.program_text.specs.ProgramText.{program_text}
+use Rattle.refusals.specs.Faults.{unless}
+use Rattle.signal_cli.specs.Commands.{Command, Encode, Program, Replay, Trace}
+use Rattle.signal_cli.specs.Faults.{uncompiled_of}
 use Rattle.signal_cli.specs.declared.fault.Fault.{Fault}
 use Rattle.signal_cli.specs.declared.fault.Fault.TheVariants.{NetworkLong, Network, PlanLong, Plan as PlanRefused, Read}
 use Rattle.signal_cli.specs.declared.input.Content.{Content}
@@ -62,6 +70,19 @@ network_from (Whole bytes) = network bytes
 abbrev pub network_in : Files → List ℕ → Result Named Fault
 network_in files name = content_in files name MAX_FILE_BYTES >>= network_from
 
+-- a network whose size was judged, as an answer of the planner
+abbrev pub sized_as : Result Named CompileFault → Result Named Fault
+sized_as (Ok named) = Ok named
+sized_as (Err fault) = Err (uncompiled_of fault)
+
+-- a network whose program is not too large (docs/program.md, "Limits")
+abbrev pub sized : Named → Result Named Fault
+sized named = sized_as (unless (size_faults named.net) named)
+
+-- the network in the named file, its size judged as soon as the file was
+abbrev pub sized_in : Files → List ℕ → Result Named Fault
+sized_in files name = network_in files name >>= sized
+
 -- what became of a text, as an answer of the program
 abbrev pub planned_as : Result Plan PlanFault → Result Plan Fault
 planned_as (Ok plan) = Ok plan
@@ -80,13 +101,25 @@ plan_from named (Whole bytes) = plan named bytes
 abbrev pub plan_in : Named → Files → List ℕ → Result Plan Fault
 plan_in named files name = content_in files name MAX_FILE_BYTES >>= plan_from named
 
+-- a network, and the plan for it in the named file, which is read where the network is accepted
+abbrev pub with_plan : Result Named Fault → Files → List ℕ → Result Planned Fault
+with_plan network files plan = network >>= (λ named. plan_in named files plan >>= (λ plan. Ok (record { named = named; plan = plan })))
+
 -- a network and a plan for it, each judged as soon as its file was read
 abbrev pub planned_in : Files → List ℕ → List ℕ → Result Planned Fault
-planned_in files network plan = network_in files network >>= (λ named. plan_in named files plan >>= (λ plan. Ok (record { named = named; plan = plan })))
+planned_in files network plan = with_plan (network_in files network) files plan
+
+-- the same for a network whose size is judged before the plan is read
+abbrev pub sized_planned_in : Files → List ℕ → List ℕ → Result Planned Fault
+sized_planned_in files network plan = with_plan (sized_in files network) files plan
 
 -- lines alone
 abbrev pub printed : List ℕ → Reply
 printed lines = record { rejected = false; lines = lines; outputs = [] }
+
+-- a file, and then lines
+abbrev pub filed : (name bytes lines : List ℕ) → Reply
+filed name bytes lines = record { rejected = false; lines = lines; outputs = (record { name = name; bytes = bytes }) ∷ [] }
 
 -- the lines of a replay under the words of a plan: the delay, and what is left at the end
 unfoldable pub replay_lines : Net → List (List Letter) → List ℕ
@@ -107,17 +140,42 @@ replay_of files network (Some plan) = planned_in files network plan >>= (λ plan
 abbrev pub trace_reply : List ℕ → Planned → Reply
 trace_reply table planned =
     let net = planned.named.net in
-    record {
-      rejected = false;
-      lines = replay_lines net planned.plan.words;
-      outputs = (record { name = table; bytes = trace_text planned.named.names (trace_of net.cells (letters_at planned.plan.words) net.steps) }) ∷ [];
-    }
+    filed table (trace_text planned.named.names (trace_of net.cells (letters_at planned.plan.words) net.steps)) (replay_lines net planned.plan.words)
 
 -- `trace NET PLAN OUT`
 abbrev pub trace_in : Files → List ℕ → List ℕ → List ℕ → Result Reply Fault
 trace_in files network plan table = planned_in files network plan >>= (λ planned. Ok (trace_reply table planned))
 
+-- how many rows and columns a program has, and how many of the columns are the plan's, as lines
+unfoldable pub program_lines : Parts → List ℕ
+program_lines program =
+    codes "rows " ++ decimal (length program.rows) ++ codes "\ncolumns " ++ decimal (length program.columns) ++ codes "\nplan " ++ decimal program.plan_cols ++ codes "\n"
+
+-- the text of a program for a file, and what it has
+abbrev pub program_reply : List ℕ → Parts → Reply
+program_reply text program = filed text (program_text program) (program_lines program)
+
+-- `program NET OUT`
+abbrev pub program_in : Files → List ℕ → List ℕ → Result Reply Fault
+program_in files network text = sized_in files network >>= (λ named. Ok (program_reply text (program_of named.net)))
+
+-- how many values a point has, as a line
+unfoldable pub point_line : List ℤ → List ℕ
+point_line point = codes "columns " ++ decimal (length point) ++ codes "\n"
+
+-- the text of a plan's point for a file, and how many values it has
+abbrev pub point_reply : List ℕ → Planned → Reply
+point_reply text planned =
+    let point = point_of planned.named.net planned.plan.words in
+    filed text (point_text point) (point_line point)
+
+-- `encode NET PLAN OUT`
+abbrev pub encode_in : Files → List ℕ → List ℕ → List ℕ → Result Reply Fault
+encode_in files network plan text = sized_planned_in files network plan >>= (λ planned. Ok (point_reply text planned))
+
 -- which outcome the files deserve of a command: a reply, or the first fault in the order of judging
 abbrev pub Deserves : Command → Files → Result Reply Fault → Type 0
 Deserves (Replay network plan) files outcome = replay_of files network plan ≡ outcome
 Deserves (Trace network plan table) files outcome = trace_in files network plan table ≡ outcome
+Deserves (Program network text) files outcome = program_in files network text ≡ outcome
+Deserves (Encode network plan text) files outcome = encode_in files network plan text ≡ outcome

@@ -7,17 +7,23 @@ use Rattle.std.specs.Str.{bytes_eq}
 pub data Command : Type 0 where
   Replay : (network : List ℕ) (plan : Option (List ℕ)) → Command
   Trace : (network plan table : List ℕ) → Command
+  Program : (network text : List ℕ) → Command
+  Encode : (network plan text : List ℕ) → Command
 
 -- the files of a command that are read, in the order of reading
 abbrev pub inputs_of : Command → List (List ℕ)
 inputs_of (Replay network None) = network ∷ []
 inputs_of (Replay network (Some plan)) = network ∷ plan ∷ []
 inputs_of (Trace network plan table) = network ∷ plan ∷ []
+inputs_of (Program network text) = network ∷ []
+inputs_of (Encode network plan text) = network ∷ plan ∷ []
 
 -- the files of a command that are written, in the order of writing
 abbrev pub outputs_of : Command → List (List ℕ)
 outputs_of (Replay network plan) = []
 outputs_of (Trace network plan table) = table ∷ []
+outputs_of (Program network text) = text ∷ []
+outputs_of (Encode network plan text) = text ∷ []
 
 -- the name has no byte
 abbrev pub is_empty : List ℕ → Bool
@@ -32,8 +38,12 @@ are_names (name ∷ names) = not (is_empty name) && (not (list_any (bytes_eq nam
 -- the command whose form the words have, whatever its files are called
 abbrev pub form_of : List (List ℕ) → Option Command
 form_of (command ∷ network ∷ []) = if bytes_eq command (codes "replay") then Some (Replay network None) else None
-form_of (command ∷ network ∷ plan ∷ []) = if bytes_eq command (codes "replay") then Some (Replay network (Some plan)) else None
-form_of (command ∷ network ∷ plan ∷ table ∷ []) = if bytes_eq command (codes "trace") then Some (Trace network plan table) else None
+form_of (command ∷ network ∷ second ∷ []) =
+    if bytes_eq command (codes "replay") then Some (Replay network (Some second)) else
+    (if bytes_eq command (codes "program") then Some (Program network second) else None)
+form_of (command ∷ network ∷ plan ∷ out ∷ []) =
+    if bytes_eq command (codes "trace") then Some (Trace network plan out) else
+    (if bytes_eq command (codes "encode") then Some (Encode network plan out) else None)
 form_of _ = None
 
 -- a command whose files have names that differ

@@ -21,6 +21,17 @@ pub enum Command<'a> {
         plan: &'a str,
         table: &'a str,
     },
+    /// The text of the program in whole numbers of a network, written to a file.
+    Program {
+        network: &'a str,
+        text: &'a str,
+    },
+    /// The text of the point of a plan, written to a file.
+    Encode {
+        network: &'a str,
+        plan: &'a str,
+        text: &'a str,
+    },
 }
 
 /// The command that the words ask for, or none where they are of no form.
@@ -49,10 +60,19 @@ fn form(words: &[Text]) -> Option<Command<'_>>
             network: network.as_str(),
             plan: Some(plan.as_str()),
         }),
+        [command, network, text] if command.as_str() == "program" => Some(Command::Program {
+            network: network.as_str(),
+            text: text.as_str(),
+        }),
         [command, network, plan, table] if command.as_str() == "trace" => Some(Command::Trace {
             network: network.as_str(),
             plan: plan.as_str(),
             table: table.as_str(),
+        }),
+        [command, network, plan, text] if command.as_str() == "encode" => Some(Command::Encode {
+            network: network.as_str(),
+            plan: plan.as_str(),
+            text: text.as_str(),
         }),
         _ => None,
     }
@@ -76,6 +96,12 @@ fn has_names(command: &Command<'_>) -> bool
             plan,
             table,
         } => are_three_names(network, plan, table),
+        Command::Program { network, text } => are_two_names(network, text),
+        Command::Encode {
+            network,
+            plan,
+            text,
+        } => are_three_names(network, plan, text),
     }
 }
 

@@ -6,6 +6,8 @@ ghost use Rattle.signal_cli.specs.inner.Causes.{Finds};
 ghost use Rattle.signal_cli.specs.Commands.{are_names, inputs_of, outputs_of};
 ghost use Rattle.signal_cli.specs.inner.CommandViews.{view_of};
 
+mod encode;
+mod program;
 mod replay;
 mod trace;
 
@@ -27,5 +29,11 @@ pub fn answer<F: Shelf>(alloc: Global, command: Command<'_>, shelf: &mut F) -> R
             plan,
             table,
         } => trace::trace(alloc, network, plan, table, shelf),
+        Command::Program { network, text } => program::program(alloc, network, text, shelf),
+        Command::Encode {
+            network,
+            plan,
+            text,
+        } => encode::encode(alloc, network, plan, text, shelf),
     }
 }

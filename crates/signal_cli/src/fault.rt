@@ -1,12 +1,13 @@
 //! Why a command was not done, and the status that it ends with.
 
 ghost use Rattle.std.specs.Prelude.{◌≡◌};
-ghost use Rattle.signal_cli.specs.Faults.{unplanned_of, unspelled_of};
+ghost use Rattle.signal_cli.specs.Faults.{uncompiled_of, unplanned_of, unspelled_of};
 ghost use Rattle.signal_cli.specs.Faults.{status_of};
 ghost use Rattle.signal_cli.specs.declared.fault.Fault.TheVariants as fault;
 
 use cell_build::NetworkFault;
 use ct_base::Memory;
+use lo_program::CompileFault;
 use plan_file::PlanFault;
 use std::alloc::AllocError;
 
@@ -21,6 +22,8 @@ pub enum Fault {
     PlanLong,
     /// The plan file spells no plan for the network, or the network wants a plan.
     Plan(PlanFault),
+    /// The network's program has so many rows, more than are held.
+    TooLarge(u64),
     /// A read failed, or a file is not there.
     Read,
     /// Memory was wanting.
@@ -35,6 +38,7 @@ impl Fault {
         match self {
             Fault::NetworkLong | Fault::Network(_) => 3,
             Fault::PlanLong | Fault::Plan(_) => 4,
+            Fault::TooLarge(_) => 5,
             Fault::Read => 6,
             Fault::Memory => 8,
         }
@@ -59,6 +63,17 @@ impl From<PlanFault> for Fault {
         match fault {
             PlanFault::Memory => Fault::Memory,
             fault => Fault::Plan(fault),
+        }
+    }
+}
+
+impl From<CompileFault> for Fault {
+    ghost from_gives = { λ fault made. made ≡ uncompiled_of fault };
+
+    fn from(fault: CompileFault) -> Fault {
+        match fault {
+            CompileFault::TooLarge(rows) => Fault::TooLarge(rows),
+            CompileFault::Memory => Fault::Memory,
         }
     }
 }

@@ -24,6 +24,7 @@ pub fn line_of(alloc: Global, fault: Fault) -> Result<Text, AllocError>
             let text = plan_text(alloc, fault)?;
             format!(in alloc; "plan {text}\n")?
         }
+        Fault::TooLarge(rows) => format!(in alloc; "too large {rows}\n")?,
         Fault::Read => format!(in alloc; "read fault\n")?,
         Fault::Memory => format!(in alloc; "want of memory\n")?,
     }))

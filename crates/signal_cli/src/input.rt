@@ -1,15 +1,17 @@
 //! What a command reads: networks and plans, each judged as soon as its bytes are there.
 
-ghost use Rattle.std.specs.Prelude.{◌≡◌, ◌≤◌, false, Err, IfOk};
+ghost use Rattle.std.specs.Prelude.{◌≡◌, ◌≤◌, [], false, Err, IfErr, IfOk, OnOk};
 ghost use Rattle.std.specs.Str.{bytes_eq};
 ghost use Rattle.traffic_model.specs.Runs.{IsAdmissiblePlan};
-ghost use Rattle.signal_cli.specs.Answers.{content_in, network, network_from, network_in, plan, plan_from, plan_in, planned_in};
+ghost use Rattle.lo_program.specs.Compiled.{size_faults};
+ghost use Rattle.signal_cli.specs.Answers.{content_in, network, network_from, network_in, plan, plan_from, plan_in, planned_in, sized, sized_in, sized_planned_in};
 ghost use Rattle.signal_cli.specs.inner.Causes.{Finds, Gives, ended_as};
 ghost use Rattle.signal_cli.specs.declared.fault.Fault.TheVariants as fault;
 
 use crate::fault::Fault;
 use ct_base::{Listed, Plan};
 use limits::MAX_FILE_BYTES;
+use lo_program::judge_size;
 use named_net::NamedNet;
 use shelf_io::{ReadAll, Shelf, read_all};
 use std::alloc::Global;
@@ -37,6 +39,26 @@ pub fn read_network<F: Shelf>(alloc: Global, shelf: &mut F, name: &str) -> Resul
     let content = read_content(alloc, shelf, name, MAX_FILE_BYTES)?;
     let named = network_from(alloc, content)?;
     Ok(named)
+}
+
+/// The network in a file whose program is not too large, or why there is none.
+pub fn read_sized<F: Shelf>(alloc: Global, shelf: &mut F, name: &str) -> Result<NamedNet, Fault>
+    ensures found { Finds (λ files outcome. sized_in files name.now ≡ outcome) result (F.state shelf.old) (F.state shelf.new) }
+    ensures small { IfOk result (λ named. size_faults named.net ≡ []) }
+{
+    let named = read_network(alloc, shelf, name)?;
+    refuse_large(&named)?;
+    Ok(named)
+}
+
+/// Refuses a network whose program is too large.
+fn refuse_large(named: &NamedNet) -> Result<(), Fault>
+    ensures small { OnOk result (size_faults named.now.net ≡ []) }
+    ensures large { IfErr result (λ fault. Gives (Err fault) (sized named.now)) }
+    ensures exact { IfErr result (λ fault. sized named.now ≡ Err fault) }
+{
+    judge_size(named.net())?;
+    Ok(())
 }
 
 /// The plan in a file for a network, or why there is none.
@@ -67,6 +89,22 @@ pub fn read_planned<F: Shelf>(
     ensures admissible { IfOk result (λ planned. IsAdmissiblePlan planned.named.net planned.plan) }
 {
     let named = read_network(alloc, shelf, network)?;
+    let plan = read_plan(alloc, shelf, plan, &named)?;
+    Ok(Planned { named, plan })
+}
+
+/// The same where the network's program must not be too large. The plan is not read where it is.
+pub fn read_sized_planned<F: Shelf>(
+    alloc: Global,
+    shelf: &mut F,
+    network: &str,
+    plan: &str,
+) -> Result<Planned, Fault>
+    requires { bytes_eq network.now plan.now ≡ false }
+    ensures found { Finds (λ files outcome. sized_planned_in files network.now plan.now ≡ outcome) result (F.state shelf.old) (F.state shelf.new) }
+    ensures admissible { IfOk result (λ planned. IsAdmissiblePlan planned.named.net planned.plan) }
+{
+    let named = read_sized(alloc, shelf, network)?;
     let plan = read_plan(alloc, shelf, plan, &named)?;
     Ok(Planned { named, plan })
 }

@@ -1,6 +1,11 @@
 //! What a command answers where nothing stands in its way.
 
-use shelf_io::{FileList, Text};
+ghost use Rattle.std.specs.Prelude.{◌≡◌, IfOk};
+ghost use Rattle.signal_cli.specs.Answers.{filed};
+
+use ct_base::Memory;
+use shelf_io::{File, FileList, Listed, Text};
+use std::alloc::Global;
 
 /// An answer that is computed whole before any of it is written.
 #[derive(Debug, Drop)]
@@ -11,4 +16,20 @@ pub struct Reply {
     pub lines: Text,
     /// The files that are written, in the order of writing.
     pub outputs: FileList,
+}
+
+impl Reply {
+    /// A file under a name, and then lines.
+    pub fn filed(alloc: Global, name: &str, bytes: Listed<u8>, lines: Text) -> Result<Reply, Memory>
+        ensures { IfOk result (λ reply. reply ≡ filed name.now bytes lines) }
+    {
+        let name = Text::from_str(alloc, name)?;
+        let mut outputs = Listed::new(alloc);
+        outputs.push(File { name, bytes })?;
+        Ok(Reply {
+            rejected: false,
+            lines,
+            outputs,
+        })
+    }
 }

@@ -5,5 +5,7 @@ mod examples;
 mod networks;
 mod plan_texts;
 mod plans;
+mod programs;
+mod runs;
 mod traces;
 mod world;

@@ -1,5 +1,5 @@
 -- How what a part of a command found stands to what the files deserve, and what was done with it.
-use Rattle.std.specs.Prelude.{◌≡◌, ℕ, ◌⊎◌, List, Result, Ok, Err}
+use Rattle.std.specs.Prelude.{◌≡◌, ℕ, ◌⊎◌, Result, Ok, Err}
 use Rattle.shelf_io.specs.Told.{Files, ShelfState, StopsInText, read_failed, with_taken}
 use Rattle.shelf_io.specs.declared.whole_file.ReadAll.{ReadAll}
 use Rattle.shelf_io.specs.declared.whole_file.ReadAll.TheVariants as ended

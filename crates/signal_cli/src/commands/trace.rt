@@ -1,6 +1,6 @@
 //! `trace NET PLAN OUT`: the table of a network's replay under a plan, written to a file.
 
-ghost use Rattle.std.specs.Prelude.{◌≡◌, [], ◌∷◌, false, Ok, IfOk};
+ghost use Rattle.std.specs.Prelude.{◌≡◌, false, Ok, IfOk};
 ghost use Rattle.std.specs.Str.{bytes_eq};
 ghost use Rattle.traffic_model.specs.Delay.{letters_at};
 ghost use Rattle.traffic_model.specs.Runs.{HasWords, IsAdmissiblePlan};
@@ -13,10 +13,10 @@ use crate::commands::replay::lines_of;
 use crate::fault::Fault;
 use crate::input::{Planned, read_planned};
 use crate::reply::Reply;
-use ct_base::{Listed, Memory, Plan, Text};
+use ct_base::{Listed, Memory, Plan};
 use named_net::NamedNet;
 use plan_report::trace_csv;
-use shelf_io::{File, FileList, Shelf};
+use shelf_io::Shelf;
 use std::alloc::Global;
 
 /// The delay and what is left of a network under a plan, and the table of its replay for a file.
@@ -42,12 +42,8 @@ fn reply_with(alloc: Global, planned: &Planned, table: &str) -> Result<Reply, Fa
 {
     let lines = lines_of(alloc, planned.named.net(), &planned.plan)?;
     let text = text_of(alloc, &planned.named, &planned.plan)?;
-    let outputs = one_file(alloc, table, text)?;
-    Ok(Reply {
-        rejected: false,
-        lines,
-        outputs,
-    })
+    let reply = Reply::filed(alloc, table, text, lines)?;
+    Ok(reply)
 }
 
 /// The table of a network's replay under a plan, as a text.
@@ -57,16 +53,4 @@ fn text_of(alloc: Global, named: &NamedNet, plan: &Plan) -> Result<Listed<u8>, M
 {
     let trace = cell_replay::trace(alloc, named.net(), plan)?;
     Ok(Listed::of(trace_csv(alloc, named, &trace)?))
-}
-
-/// A file with its name.
-fn one_file(alloc: Global, name: &str, bytes: Listed<u8>) -> Result<FileList, Memory>
-    ensures { IfOk result (λ files. files ≡ (record { name = name.now; bytes = bytes }) ∷ []) }
-{
-    let mut files = Listed::new(alloc);
-    files.push(File {
-        name: Text::from_str(alloc, name)?,
-        bytes,
-    })?;
-    Ok(files)
 }

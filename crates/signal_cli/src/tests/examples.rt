@@ -16,6 +16,14 @@ pub const LATE_QUEUE: &str =
 pub const DIVERGE: &str =
     "format = 1\nsteps = 2\n[[link]]\nname = \"d\"\ncap = 6\nstore = 9\ninitial = [5]\nturns = [{ link = \"b\", parcel = 2 }, { link = \"c\", parcel = 1 }]\n[[link]]\nname = \"b\"\ncap = 6\nstore = 9\n[[link]]\nname = \"c\"\ncap = 6\nstore = 9\n";
 
+/// One link of one cell with three units, over one step.
+pub const ONE_CELL: &str =
+    "format = 1\nsteps = 1\n[[link]]\nname = \"a\"\ncap = 2\nstore = 3\ninitial = [3]\n";
+
+/// One link whose program has more rows than are held.
+pub const LONG_LINK: &str =
+    "format = 1\nsteps = 240\n[[link]]\nname = \"a\"\ncells = 255\ncap = 1\nstore = 1\nrates = [0]\n";
+
 /// Two links with a unit each that a signal of two phases lets into one in turn.
 pub const CROSSING: &str =
     "format = 1\nsteps = 3\n[[link]]\nname = \"x\"\ncap = 1\nstore = 2\ninitial = [1]\nto = \"m\"\nsignal = \"s\"\ngreens = [\"a\"]\n[[link]]\nname = \"z\"\ncap = 1\nstore = 2\ninitial = [1]\nto = \"m\"\nsignal = \"s\"\ngreens = [\"b\"]\n[[link]]\nname = \"m\"\ncap = 1\nstore = 2\n[[signal]]\nname = \"s\"\n[[signal.phase]]\nname = \"a\"\nmin = 1\nmax = 2\nnext = [\"b\"]\n[[signal.phase]]\nname = \"b\"\nmin = 1\nmax = 2\nnext = [\"a\"]\n";

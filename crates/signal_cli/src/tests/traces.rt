@@ -1,10 +1,8 @@
 //! The table of a replay as a file: whole, replaced, or as far as calls did not fail; and all calls that a run makes.
 
 use crate::tests::examples::{CROSSING, DIVERGE, FIRST_PLAN, LATE_QUEUE, ONE_LINK};
+use crate::tests::runs::{Run, try_runs};
 use crate::tests::world::{ALL_CALLS, Calls, run_over};
-use shelf_io::Call;
-use std::alloc::{AllocError, Global};
-use std::process::Abort;
 use std::test::Fail;
 
 /// The most bytes of a network file, and of a plan file.
@@ -32,20 +30,6 @@ const QUEUE_TABLE: &str =
 /// The table of the diverge.
 const DIVERGE_TABLE: &str =
     "step,link,cell,units,out,delay\n0,d,0,5,3,2\n0,b,0,0,0,0\n0,c,0,0,0,0\n1,d,0,2,0,2\n1,b,0,2,2,0\n1,c,0,1,1,0\n";
-
-/// The words of a run over the files of these tests, the calls on the shelf and the puts that fail, the most bytes of a call
-/// on the shelf, the status that comes of it, what is put, what the file `out` holds then, and all calls that were made on
-/// the shelf.
-type Run = (
-    &'static [&'static str],
-    &'static [u64],
-    &'static [u64],
-    usize,
-    u8,
-    &'static str,
-    Option<&'static str>,
-    &'static str,
-);
 
 /// The reads of a file that is one byte longer than is allowed: none past the first piece beyond the limit.
 const SEVENTEEN_READS: &str =
@@ -341,23 +325,6 @@ const RUNS: &[Run] = &[
     ),
 ];
 
-/// The calls in their order, each followed by a comma. A read asks for 65,536 bytes.
-fn told(rt: &impl Abort, alloc: Global, calls: &[Call]) -> Result<String, AllocError> {
-    let mut text = String::new(alloc);
-    for call in calls {
-        let line = match call {
-            Call::Read(name, at, room) => {
-                assert!(rt; *room == 65_536);
-                format!(in alloc; "{name} {at}, ")?
-            }
-            Call::Create(name) => format!(in alloc; "create {name}, ")?,
-            Call::Append(name, count) => format!(in alloc; "append {name} {count}, ")?,
-        };
-        text.push_str(line.as_str())?;
-    }
-    Ok(text)
-}
-
 #[test]
 fn a_run_makes_these_calls_and_no_others(rt: HostRuntime) -> Result<(), Fail> {
     let spaces = vec![in rt.alloc(); b' '; LONGEST + 1]?;
@@ -370,25 +337,7 @@ fn a_run_makes_these_calls_and_no_others(rt: HostRuntime) -> Result<(), Fail> {
         ("plan", FIRST_PLAN.as_bytes()),
         ("none", NO_SIGNAL.as_bytes()),
     ];
-    for (words, failing, failing_puts, most, status, put, out, wanted) in RUNS {
-        let calls = Calls {
-            failing,
-            most: *most,
-            failing_puts,
-            most_put: 65_536,
-        };
-        let ran = run_over(&rt, words, &files, &calls)?;
-        assert_eq!(rt; ran.status, *status, "{wanted}");
-        assert_eq!(rt; ran.out.bytes(), put.as_bytes(), "{wanted}");
-        assert!(rt;
-            ran.shelf.shelf().file("out") == out.map(|text| text.as_bytes()),
-            "{wanted}"
-        );
-        assert_eq!(rt; told(&rt, rt.alloc(), ran.shelf.calls())?.as_str(), *wanted);
-        for (name, bytes) in files {
-            assert!(rt; ran.shelf.shelf().file(name) == Some(bytes), "{wanted}");
-        }
-    }
+    try_runs(&rt, RUNS, &files)?;
     Ok(())
 }
 

@@ -5,3 +5,9 @@ returns-in-Replay g c = rw c.in-Replay.is c.replay.ensures
 
 pub returns-in-Trace : goal.returns-in-Trace
 returns-in-Trace g c = rw c.in-Trace.is c.trace.ensures
+
+pub returns-in-Program : goal.returns-in-Program
+returns-in-Program g c = rw c.in-Program.is c.program.ensures
+
+pub returns-in-Encode : goal.returns-in-Encode
+returns-in-Encode g c = rw c.in-Encode.is c.encode.ensures

@@ -9,7 +9,7 @@ use Rattle.signal_cli.proofs.commands.replay.replay_alone.Goals as goal
 pub returns-in_err-named : goal.returns-in_err-named
 returns-in_err-named g c =
     let p = err_from_is_err_and c.from_residual.result c.from_residual.ensures.1 in
-    rw p.1 (rw p.2 (found_fault (λ files. network_in files c.args.network.now) (λ (named : Named). replay_alone named.net named.net.signals) c.in_err-named.field-0.0 _ _ c.in_err-named.ensures))
+    rw p.1 (rw p.2 (found_fault (λ files. network_in files c.args.network.now) (λ _ (named : Named). replay_alone named.net named.net.signals) c.in_err-named.field-0.0 _ _ c.in_err-named.ensures))
 
 pub returns-in_err-reply : goal.returns-in_err-reply
 returns-in_err-reply g c =

@@ -15,7 +15,7 @@ reply_to table planned = Ok (trace_reply table planned)
 pub returns-in_err-planned : goal.returns-in_err-planned
 returns-in_err-planned g c =
     let p = err_from_is_err_and c.from_residual.result c.from_residual.ensures.1 in
-    rw p.1 (rw p.2 (found_fault (λ files. planned_in files c.args.network.now c.args.plan.now) (reply_to c.args.table.now) c.in_err-planned.field-0.0 _ _ c.in_err-planned.ensures.found))
+    rw p.1 (rw p.2 (found_fault (λ files. planned_in files c.args.network.now c.args.plan.now) (λ _. reply_to c.args.table.now) c.in_err-planned.field-0.0 _ _ c.in_err-planned.ensures.found))
 
 pub returns-in_err-reply : goal.returns-in_err-reply
 returns-in_err-reply g c =
