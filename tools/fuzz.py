@@ -1,13 +1,16 @@
 #!/usr/bin/env python3
-"""Runs the program on random networks and plans, and compares it with tools/judge.py and tools/replay.py.
+"""Runs the program on random networks and plans, and compares it with tools/judge.py, tools/replay.py and tools/compile.py.
 
 usage: tools/fuzz.py SEED COUNT [PROGRAM]   (Python 3.11, for tomllib)
 
 Case k of a seed is always the same: a small valid network with an admissible plan, in some spelling, and then mostly one
-or two changes of the network, of the plan or of the bytes of one of them. Where the judge accepts both, `replay` and `trace`
-have to print what the replay gives, and `trace` has to write its table; else both have to print the judge's line, and no
-table may be made. A case without a plan is traced with the plan of no signals, which is judged alike. Statuses are compared
-too, standard error has to be empty, and in the case's own folder nothing else may change. The program is the built one (run
+or two changes of the network, of the plan or of the bytes of one of them; every 500th is a network of 256 cells over 240 steps.
+Where the judge accepts both files, `replay` and `trace` have to print what the replay gives, `trace` has to write its table, and
+`program` and `encode` have to print and write what tools/compile.py gives, whole texts. The point that was written is tried on
+the program that was written: each bound, each row, and the objective, which has to be the delay. Else the four have to print
+the judge's line, or `too large` where a network has more than 400,000 rows, and no file may be made; `program` looks at no plan.
+A case without a plan gets the plan of no signals for `trace` and `encode`, which is judged alike. Statuses are compared too,
+standard error has to be empty, and in the case's own folder nothing else may change. The program is the built one (run
 ./planner first) or the one that is named.
 
 At the end stands how often each answer came and, from 2000 cases on, which of all refusals never came; the last line
@@ -22,13 +25,16 @@ import shutil
 import subprocess
 import sys
 import tempfile
+import typing
 
+import compile
 import judge
 import replay
 
 TOP = pathlib.Path(__file__).resolve().parent.parent
 PROGRAM = TOP / 'crates/signal_cli/out/signal_cli'
 NO_SIGNALS = b'ctm-plan 1\nend\n'
+LARGE_EVERY = 500  # cases
 
 
 # Valid networks, as tables of a document.
@@ -115,6 +121,19 @@ def random_network(random):
     if signals or random.random() < 0.2:
         net['signal'] = signals
     return net
+
+
+def large_network(random):
+    """A network of 256 cells over 240 steps, which has about as many rows as a program may have, and mostly more."""
+    while True:
+        net = random_network(random)
+        link = random.choice(net['link'])
+        link.pop('initial', None)
+        count = sum(each.get('cells', 1) + (1 if judge.pieces_of(each) else 0) for each in net['link'])
+        link['cells'] = link.get('cells', 1) + 256 - count
+        net['steps'] = 240
+        if compile.Shape(copy.deepcopy(net)).row_count() > random.choice([compile.MOST_ROWS, 9 * compile.MOST_ROWS // 10]):
+            return net
 
 
 # Admissible plans, as lists of lines.
@@ -681,10 +700,12 @@ def plan_changed_again(random, net, data):
 def case_of(seed, number):
     """The bytes of a network, and of a plan or None."""
     rng = random.Random('%s/%d' % (seed, number))
-    net = random_network(rng)
+    net = large_network(rng) if number % LARGE_EVERY == LARGE_EVERY - 1 else random_network(rng)
     lines = random_plan(rng, net)
     plan = '\n'.join(lines).encode() + b'\n'
     kind = rng.random()
+    if number % LARGE_EVERY == LARGE_EVERY - 1:
+        return spelled_document(rng, net), plan
     if kind < 0.55:
         for _ in range(rng.choice([1, 1, 1, 2, 3])):
             net = changed_network(rng, net)
@@ -700,17 +721,37 @@ def case_of(seed, number):
     return data, plan
 
 
+class Run(typing.NamedTuple):
+    """A run of the program, and what has to come of it."""
+    words: list
+    status: int
+    printed: str
+    made: dict  # what it writes: the name of a file, and its text
+
+
 def expected(network, plan):
-    """The status, the printed text, the table or None, and the word for the tally."""
-    refused = judge.judge(network, plan)
+    """The runs, and the words for the tally."""
+    refused, told = judge.judge(network, plan), NO_SIGNALS if plan is None else plan
+    replays = [['replay', 'net.toml'] + ['net.plan'] * (plan is not None)]
     if refused is not None:
         status, line = refused
-        return status, line + '\n', None, word_of(line)
-    net = judge.judge_network(network)
-    text = plan.decode() if plan is not None else None
-    word = 'replay of turns' if any('turns' in link for link in net['link']) else 'replay'
-    printed = 'delay %d\nleft %d\n' % replay.replay(net, text)
-    return 0, printed, replay.trace(net, text), word + (' and a signal' if net.get('signal') else '')
+        words = [word_of(line)]
+        runs = [Run(replays[0], status, line + '\n', {}), Run(['trace', 'net.toml', 'net.plan', 'table.csv'], status, line + '\n', {})]
+    else:
+        net, text = judge.judge_network(network), None if plan is None else plan.decode()
+        kind = 'replay of turns' if any('turns' in link for link in net['link']) else 'replay'
+        words = [kind + (' and a signal' if net.get('signal') else '')]
+        printed = 'delay %d\nleft %d\n' % replay.replay(net, text)
+        table = replay.trace(judge.judge_network(network), told.decode())
+        runs = [Run(replays[0], 0, printed, {}), Run(['trace', 'net.toml', 'net.plan', 'table.csv'], 0, printed, {'table.csv': table})]
+    for command, answer, names in [('program', compile.answer_of_program(network), ['net.toml']),
+                                   ('encode', compile.answer_of_encode(network, told), ['net.toml', 'net.plan'])]:
+        status, printed, text = answer
+        made = {} if text is None else {command + '.txt': text}
+        runs.append(Run([command, *names, command + '.txt'], status, printed, made))
+        if status in (0, 5):
+            words.append('%s %s' % (command, 'too large' if status else 'made'))
+    return runs, words
 
 
 def word_of(line):
@@ -724,6 +765,7 @@ def word_of(line):
 def wanted_words():
     """Each answer that a long run has to hit."""
     words = ['replay', 'replay and a signal', 'replay of turns', 'replay of turns and a signal']
+    words += ['program made', 'program too large', 'encode made', 'encode too large']
     words += ['network long', 'network toml', 'network format']
     no_range = {('top', 'format'), ('link', 'to'), ('link', 'signal'), ('turn', 'link'), ('signal', 'start')}
     for kind, keys in judge.KEYS.items():
@@ -741,26 +783,38 @@ def wanted_words():
 
 
 def faults_of(program, folder, network, plan):
-    """What `replay` and `trace` did in the case's folder otherwise than they have to, and the word for the tally."""
-    status, text, table, word = expected(network, plan)
+    """What the commands did in the case's folder otherwise than they have to, and the words for the tally."""
+    runs, words = expected(network, plan)
     files = {'net.toml': network, 'net.plan': NO_SIGNALS if plan is None else plan}
     folder.mkdir()
     for name, data in files.items():
         (folder / name).write_bytes(data)
     faults = []
-    for words in [['replay', 'net.toml'] + ['net.plan'] * (plan is not None), ['trace', 'net.toml', 'net.plan', 'table.csv']]:
-        if words[0] == 'trace' and table is not None:
-            files['table.csv'] = table.encode()
-        done = subprocess.run([program] + words, cwd=folder, stdout=subprocess.PIPE, stderr=subprocess.PIPE)
+    for run in runs:
+        files |= {name: text.encode() for name, text in run.made.items()}
+        done = subprocess.run([program] + run.words, cwd=folder, stdout=subprocess.PIPE, stderr=subprocess.PIPE)
         behind = {file.name: file.read_bytes() for file in folder.iterdir()}
-        for what, got, wanted in [('ended with', done.returncode, status), ('printed', done.stdout, text.encode()),
+        for what, got, wanted in [('ended with', done.returncode, run.status), ('printed', done.stdout, run.printed.encode()),
                                   ('wrote to standard error', done.stderr, b'')]:
             if got != wanted:
-                faults.append('%s %s %r, not %r' % (words[0], what, got, wanted))
+                faults.append('%s %s %r, not %r' % (run.words[0], what, got, wanted))
         for name in sorted(set(behind) | set(files)):
             if behind.get(name) != files.get(name):
-                faults.append('%s did not leave %s as it has to be' % (words[0], name))
-    return faults, word
+                faults.append('%s did not leave %s as it has to be' % (run.words[0], name))
+    if 'encode.txt' in files and not faults:
+        faults += point_faults(folder, network, files['net.plan'])
+    return faults, words
+
+
+def point_faults(folder, network, plan):
+    """What is wrong with the point that was written as one of the program that was written."""
+    program = compile.read_program((folder / 'program.txt').read_text())
+    values = compile.read_point((folder / 'encode.txt').read_text())
+    fault = compile.fault_of(program, values)
+    objective = compile.objective_of(program, values)
+    delay, _ = replay.replay(judge.judge_network(network), plan.decode())
+    faults = [] if fault is None else ['the point is none: ' + fault]
+    return faults + (['its objective is %d, and the delay %d' % (objective, delay)] if objective != delay else [])
 
 
 def main():
@@ -774,8 +828,8 @@ def main():
     tally, failed = collections.Counter(), 0
     for number in range(count):
         network, plan = case_of(seed, number)
-        faults, word = faults_of(program, folder / str(number), network, plan)
-        tally[word] += 1
+        faults, words = faults_of(program, folder / str(number), network, plan)
+        tally.update(words)
         if faults:
             failed += 1
             print('case %d, in %s: %s' % (number, folder / str(number), '; '.join(faults)))
