@@ -21,8 +21,8 @@ use Rattle.sparse_program.specs.Terms.{weight}
 use Rattle.program_model.proofs.PlanBits.{signal_is}
 use Rattle.lo_program.specs.inner.Bits.{AreBits, bit_terms}
 use Rattle.lo_program.specs.declared.rules.bits.Bits.{Bits}
-use Rattle.lo_program.proofs.CountLaws.{few_letters, few_letters_before, small_bits}
-use Rattle.lo_program.proofs.LayoutLaws.{from_table}
+use Rattle.program_layout.proofs.CountLaws.{few_letters, few_letters_before, small_bits}
+use Rattle.program_layout.proofs.LayoutLaws.{from_table}
 
 -- the letters of a signal before phase p, as the code keeps them
 pub green_kept : (net : Net) (bits : Bits) (greens : List ℕ) (p : ℕ) → AreBits net bits → greens ≡ bits.greens → p < length (signal_of net.signals bits.signal).phases →

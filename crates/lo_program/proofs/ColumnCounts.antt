@@ -20,7 +20,7 @@ use Rattle.program_model.specs.Points.{rows}
 use Rattle.program_model.specs.RuleRows.{rule_rows, rule_rows_at}
 use Rattle.program_model.proofs.NumberLaws.{length-cell, length-columns}
 use Rattle.lo_program.specs.inner.Counts.{follows, moving_rows}
-use Rattle.lo_program.proofs.CountLaws.{few_bits}
+use Rattle.program_layout.proofs.CountLaws.{few_bits}
 use Rattle.lo_program.proofs.FlowCounts.{half_of_split, length_flows}
 use Rattle.lo_program.proofs.RowCounts.{length_step}
 use Rattle.lo_program.proofs.StepLaws.{rows_of_signal}

@@ -20,8 +20,8 @@ use Rattle.sparse_program.specs.Program.{IsRow, row_from}
 use Rattle.sparse_program.specs.Terms.{inserted, rising, weight}
 use Rattle.sparse_program.proofs.LawfulTerms.{AreTerms-nonzero, AreTerms-rising, length-nonzero, length-rising, weight-at, weight-rising}
 use Rattle.lo_program.specs.inner.Flows.{ConservationFits, brings, conservation_terms, feeder, feeders_among, flow_place, leaving_terms}
-use Rattle.lo_program.specs.inner.Layout.{IsLayout}
-use Rattle.lo_program.specs.declared.layout.Layout.{Layout}
+use Rattle.program_layout.specs.Layout.{IsLayout}
+use Rattle.program_layout.specs.declared.layout.Layout.{Layout}
 
 -- ---- where flows stand
 

@@ -1,8 +1,3 @@
-pub mod BuildingLaws
-pub mod CapLaws
-pub mod CellColumns
-pub mod CountLaws
-pub mod LayoutLaws
 pub mod RowLaws
 pub mod BitLaws
 pub mod Inserting
@@ -14,7 +9,6 @@ pub mod FlowCounts
 pub mod ColumnCounts
 pub mod SizeFaults
 pub mod ProgramParts
-pub mod EncodingLaws
 pub mod LeftOut
 pub mod FeederLaws
 pub mod FewFeeders

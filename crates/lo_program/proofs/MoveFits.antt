@@ -39,8 +39,8 @@ use Rattle.flow_switches.specs.Conditions.{CapFits, MoveFits, TermFits, gate_col
 use Rattle.flow_switches.specs.declared.term.Term.{Term}
 use Rattle.lo_program.specs.inner.Moves.{gate_bits, term_by_number}
 use Rattle.lo_program.proofs.BitLaws.{fewer_filtered}
-use Rattle.lo_program.proofs.CapLaws.{units_small}
-use Rattle.lo_program.proofs.CountLaws.{few_letters, few_terms}
+use Rattle.program_columns.proofs.CapLaws.{units_small}
+use Rattle.program_layout.proofs.CountLaws.{few_letters, few_terms}
 use Rattle.lo_program.proofs.RowLaws.{columns_there}
 
 -- ---- the numbers of terms

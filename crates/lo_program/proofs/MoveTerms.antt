@@ -27,7 +27,7 @@ use Rattle.flow_switches.specs.Added.{Adds}
 use Rattle.flow_switches.specs.Sums.{cap_term, held, term_of, terms_of}
 use Rattle.flow_switches.specs.declared.term.Term.{Term}
 use Rattle.lo_program.specs.inner.Moves.{branch_by_number, gate_bits, green_bits, term_by_number}
-use Rattle.lo_program.proofs.CountLaws.{small_first}
+use Rattle.program_layout.proofs.CountLaws.{small_first}
 use Rattle.lo_program.proofs.Numbered.{numbered, numbered-least, numbered-times, numbered-total, numbered_term}
 
 -- ---- branches

@@ -6,10 +6,10 @@ ghost use Rattle.ct_base.specs.Access.{cell_of};
 ghost use Rattle.ct_base.specs.Validity.{IsValid};
 ghost use Rattle.listed.specs.Below.{join_below, sum_below, table_of};
 ghost use Rattle.lo_program.specs.inner.Adding.{Adds, Fits};
-ghost use Rattle.lo_program.specs.inner.Columns.{arrived_before};
+ghost use Rattle.program_columns.specs.Columns.{arrived_before};
 ghost use Rattle.lo_program.specs.inner.Floors.{rows_of_step};
 ghost use Rattle.lo_program.specs.inner.Flows.{IsMoves};
-ghost use Rattle.lo_program.specs.inner.Layout.{IsLayout};
+ghost use Rattle.program_layout.specs.Layout.{IsLayout};
 ghost use Rattle.program_model.specs.Columns.{columns};
 ghost use Rattle.program_model.specs.FlowRows.{flow_rows, flow_rows_at};
 ghost use Rattle.program_model.specs.Numbers.{number_of};
@@ -24,13 +24,13 @@ mod moves;
 mod rooms;
 mod terms;
 
-use crate::columns::arrivals::{more_arrived, none_arrived};
-use crate::layout::Layout;
 use conservation::add_conservation_rows;
 use ct_base::{Memory, Net};
 use feeders::{Moves, moves_of};
 use floors::{add_room_rows, add_split_rows};
 use moves::add_move_rows;
+use program_columns::{more_arrived, none_arrived};
+use program_layout::Layout;
 use sparse_program::Builder;
 
 /// Adds the flow rows of a network: step by step, and of each cell by cell.

@@ -1,20 +1,16 @@
-//! The program of a network (docs/program.md), after Lo 1999 and 2001 in outline: its columns and rows, how many rows it has, and
-//! the point of a plan.
+//! The program of a network (docs/program.md), after Lo 1999 and 2001 in outline: its rows, how many there are, and the whole with its
+//! columns.
 #![tactic(auto)]
 
-mod columns;
 mod count;
-mod encoding;
 mod fault;
 mod flows;
-mod layout;
 mod program;
 mod row;
 mod rules;
 
-pub use columns::plan_cols;
 pub use count::{row_count, rule_row_count};
-pub use encoding::encode;
 pub use fault::CompileFault;
 pub use program::{compile, judge_size};
+pub use program_columns::plan_cols;
 pub use rules::rule_rows;

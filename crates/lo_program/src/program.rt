@@ -11,15 +11,15 @@ ghost use Rattle.program_model.specs.Sparse.{sparse};
 ghost use Rattle.sparse_program.specs.declared.limits.TheConstants.{MAX_ROWS};
 ghost use Rattle.lo_program.specs.Compiled.{compiled, size_faults};
 ghost use Rattle.lo_program.specs.declared.fault.CompileFault.TheVariants.{Memory as WantOfMemory, TooLarge};
-ghost use Rattle.lo_program.specs.inner.Layout.{IsLayout};
+ghost use Rattle.program_layout.specs.Layout.{IsLayout};
 
-use crate::columns::add_columns;
 use crate::count::row_count;
 use crate::fault::CompileFault;
 use crate::flows::add_flow_rows;
-use crate::layout::{Layout, layout_of};
 use crate::rules::add_rule_rows;
 use ct_base::{Memory, Net};
+use program_columns::add_columns;
+use program_layout::{Layout, layout_of};
 use sparse_program::limits::MAX_ROWS;
 use sparse_program::{Builder, Program};
 use std::alloc::Global;

@@ -7,7 +7,7 @@ ghost use Rattle.ct_base.specs.declared.plan.Letter.TheVariants.{Clear, Green};
 ghost use Rattle.listed.specs.Below.{join_below};
 ghost use Rattle.lo_program.specs.inner.Adding.{Adds, Fits};
 ghost use Rattle.lo_program.specs.inner.Bits.{AreBits};
-ghost use Rattle.lo_program.specs.inner.Layout.{IsLayout};
+ghost use Rattle.program_layout.specs.Layout.{IsLayout};
 ghost use Rattle.program_model.specs.Numbers.{number_of, plan_count};
 ghost use Rattle.program_model.specs.RuleRows.{clear_end_rows, end_rows, rule_rows, rule_rows_at, stay_rows};
 ghost use Rattle.program_model.specs.Sparse.{sparse};
@@ -17,11 +17,11 @@ pub(crate) mod bits;
 mod lasting;
 mod letters;
 
-use crate::layout::{Layout, layout_of};
 use bits::{Bits, bits_of};
 use ct_base::{Letter, Net, Phase};
 use lasting::{add_clear_end_rows, add_end_rows, add_stay_rows};
 use letters::{add_follow_rows, add_one_letter_row};
+use program_layout::{Layout, layout_of};
 use sparse_program::{Builder, Memory};
 
 /// Adds the rule rows to a builder that holds the columns of the plan as its first. They name no other columns.

@@ -1,4 +1,4 @@
-//! Tests of the replay, of programs in whole numbers, and of the program of a network: each tries what a crate makes public.
+//! Tests of the replay, of programs in whole numbers and of the program of a network: each tries what a crate makes public.
 #![tactic(auto)]
 
 #[cfg(test)]

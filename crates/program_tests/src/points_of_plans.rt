@@ -6,8 +6,8 @@ ghost use Rattle.ct_base.specs.Validity.{IsValid};
 
 use crate::networks::{crossing, green};
 use ct_base::{Net, Plan, valid};
-use lo_program::encode;
 use phase_rules::admissible;
+use plan_point::encode;
 use std::test::Fail;
 
 /// Whether a plan of one word is one of the network with one signal.

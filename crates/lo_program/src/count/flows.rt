@@ -7,8 +7,8 @@ ghost use Rattle.lo_program.specs.inner.Counts.{moving_rows};
 ghost use Rattle.program_model.specs.Columns.{has_room};
 ghost use Rattle.program_model.specs.FlowRows.{flow_rows, split_rows};
 
-use crate::layout::making::{columns_of_split, is_room_column, term_count};
 use ct_base::{Net, Out};
+use program_layout::{columns_of_split, is_room_column, term_count};
 
 /// How many flow rows there are.
 pub(super) fn flow_row_count(net: &Net) -> u64

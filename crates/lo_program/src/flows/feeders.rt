@@ -8,10 +8,10 @@ ghost use Rattle.traffic_model.specs.Flow.{parcel_to, share};
 ghost use Rattle.cell_replay.specs.Asked.{AreBranches};
 ghost use Rattle.program_model.specs.Numbers.{cells_before};
 ghost use Rattle.lo_program.specs.inner.Flows.{IsMoves, brings, feeders_of, flow_place};
-ghost use Rattle.lo_program.specs.inner.Layout.{IsLayout};
+ghost use Rattle.program_layout.specs.Layout.{IsLayout};
 
-use crate::layout::{Layout, term_count};
 use ct_base::{Listed, Memory, Net, Out};
+use program_layout::{Layout, term_count};
 use std::alloc::Global;
 
 /// A move into a cell: the place of its flow among the columns of a step, and the units that it brings with one unit of

@@ -7,18 +7,17 @@ ghost use Rattle.ct_base.specs.Validity.{IsValid};
 ghost use Rattle.ct_base.specs.declared.cell.Out.TheVariants.{Turns};
 ghost use Rattle.lo_program.specs.inner.Adding.{Adds, Fits};
 ghost use Rattle.lo_program.specs.inner.Floors.{branch_row, free_storage, parcels_row, room_row};
-ghost use Rattle.lo_program.specs.inner.Layout.{IsLayout};
+ghost use Rattle.program_layout.specs.Layout.{IsLayout};
 ghost use Rattle.program_model.specs.Columns.{Units};
 ghost use Rattle.program_model.specs.FlowRows.{branch_rows, branches_rows, room_rows, split_rows};
 ghost use Rattle.program_model.specs.Numbers.{number_of};
 ghost use Rattle.program_model.specs.Sparse.{by_number};
 
 use crate::flows::rooms::room;
-use crate::layout::numbers::{branch_column, parcels_column};
-use crate::layout::{Layout, first_column, has_room};
 use cell_replay::parcel;
 use ct_base::{Memory, Net, Out};
 use flow_switches::floor_row;
+use program_layout::{Layout, branch_column, first_column, has_room, parcels_column};
 use sparse_program::{Builder, Linear, Terms};
 use std::alloc::Global;
 

@@ -15,17 +15,17 @@ ghost use Rattle.program_model.specs.Sparse.{sparse};
 ghost use Rattle.program_model.specs.SwitchRows.{least_rows};
 ghost use Rattle.lo_program.specs.inner.Bits.{AreBits};
 ghost use Rattle.lo_program.specs.inner.Flows.{IsMoves};
-ghost use Rattle.lo_program.specs.inner.Layout.{IsLayout};
+ghost use Rattle.program_layout.specs.Layout.{IsLayout};
 ghost use Rattle.lo_program.specs.inner.Moves.{green_bits};
 
-use crate::columns::bounds::cap_of;
 use crate::flows::conservation::flow_of;
 use crate::flows::feeders::Moves;
 use crate::flows::terms::further_terms;
-use crate::layout::{Layout, first_column};
 use crate::rules::bits::{Bits, bit, bits_of};
 use ct_base::{Gate, Letter, Listed, Memory, Net};
 use flow_switches::least_rows;
+use program_columns::cap_of;
+use program_layout::{Layout, first_column};
 use sparse_program::Builder;
 use std::alloc::Global;
 

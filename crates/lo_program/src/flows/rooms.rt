@@ -7,10 +7,10 @@ ghost use Rattle.program_model.specs.Columns.{has_room};
 ghost use Rattle.program_model.specs.FlowRows.{room};
 ghost use Rattle.program_model.specs.Numbers.{first_column, number_of};
 ghost use Rattle.program_model.specs.Sparse.{by_number};
-ghost use Rattle.lo_program.specs.inner.Layout.{IsLayout};
+ghost use Rattle.program_layout.specs.Layout.{IsLayout};
 
-use crate::layout::{Layout, first_column, has_room};
 use ct_base::{Memory, Net};
+use program_layout::{Layout, first_column, has_room};
 use sparse_program::{Linear, Terms};
 use std::alloc::Global;
 

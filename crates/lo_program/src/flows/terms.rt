@@ -8,16 +8,14 @@ ghost use Rattle.ct_base.specs.declared.cell.Kind.TheVariants.{Road};
 ghost use Rattle.ct_base.specs.declared.cell.Out.TheVariants.{Turns};
 ghost use Rattle.traffic_model.specs.Occupancy.{demand_at};
 ghost use Rattle.program_model.specs.FlowRows.{branch_terms, further_terms, room_most};
-ghost use Rattle.lo_program.specs.inner.Layout.{IsLayout};
+ghost use Rattle.program_layout.specs.Layout.{IsLayout};
 ghost use Rattle.lo_program.specs.inner.Moves.{branch_by_number, column_term, room_term, term_by_number};
 
-use crate::columns::bounds::{least_units, most_room, most_units, units_of_flow};
 use crate::flows::rooms::room;
-use crate::layout::making::columns_of_branch;
-use crate::layout::numbers::parcels_column;
-use crate::layout::{Layout, first_column, has_room};
 use ct_base::{Listed, Memory, Net, Out};
 use flow_switches::Term;
+use program_columns::{least_units, most_room, most_units, units_of_flow};
+use program_layout::{Layout, columns_of_branch, first_column, has_room, parcels_column};
 use sparse_program::{Linear, Terms};
 use std::alloc::Global;
 

@@ -5,13 +5,13 @@ ghost use Rattle.ct_base.specs.Access.{signal_of};
 ghost use Rattle.ct_base.specs.Validity.{IsSignal, IsValid};
 ghost use Rattle.listed.specs.Below.{table_of};
 ghost use Rattle.lo_program.specs.inner.Bits.{AreBits};
-ghost use Rattle.lo_program.specs.inner.Layout.{IsLayout};
+ghost use Rattle.program_layout.specs.Layout.{IsLayout};
 ghost use Rattle.program_model.specs.Columns.{Bit, letters_by, letters_of};
 ghost use Rattle.program_model.specs.Existence.{IsLetterOf};
 ghost use Rattle.program_model.specs.Numbers.{letters_before, number_of};
 
-use crate::layout::{Layout, first_bit};
 use ct_base::{Letter, Listed, Memory, Net, Phase, Signal};
+use program_layout::{Layout, first_bit};
 use std::alloc::Global;
 
 /// The bits of a signal, which is worked out once.

@@ -35,7 +35,7 @@ fn reply_with(alloc: Global, planned: &Planned, text: &str) -> Result<Reply, Fau
     requires { IsAdmissiblePlan planned.now.named.net planned.now.plan }
     ensures { Gives result (Ok (point_reply text.now planned.now)) }
 {
-    let point = lo_program::encode(alloc, planned.named.net(), &planned.plan)?;
+    let point = plan_point::encode(alloc, planned.named.net(), &planned.plan)?;
     let line = line_of(alloc, point.as_slice())?;
     let bytes = Listed::of(write_point(alloc, point.as_slice())?);
     let reply = Reply::filed(alloc, text, bytes, line)?;

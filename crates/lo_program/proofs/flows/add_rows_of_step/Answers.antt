@@ -2,8 +2,8 @@ use Rattle.std.proofs.Common.{◌≡◌, ◌∙◌, rules, length, subst}
 use Rattle.listed.specs.Below.{join_below}
 use Rattle.program_model.specs.FlowRows.{flow_rows_at}
 use Rattle.lo_program.specs.inner.Adding.{Adds}
-use Rattle.lo_program.specs.inner.Columns.{arrived_before}
-use Rattle.lo_program.proofs.LayoutLaws.{from_table}
+use Rattle.program_columns.specs.Columns.{arrived_before}
+use Rattle.program_layout.proofs.LayoutLaws.{from_table}
 use Rattle.lo_program.proofs.RowLaws.{adds_no_part, adds_part, fits_part, same_columns}
 use Rattle.lo_program.proofs.flows.add_rows_of_step.Goals as goal
 

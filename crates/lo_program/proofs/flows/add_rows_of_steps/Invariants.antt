@@ -1,7 +1,7 @@
 use Rattle.std.proofs.Common.{◌≡◌, length}
 use Rattle.listed.specs.Below.{join_below, table_of}
 use Rattle.lo_program.specs.inner.Adding.{Adds}
-use Rattle.lo_program.specs.inner.Columns.{arrived_before}
+use Rattle.program_columns.specs.Columns.{arrived_before}
 use Rattle.lo_program.specs.inner.Floors.{rows_of_step}
 use Rattle.lo_program.proofs.flows.add_rows_of_steps.Given as goal
 

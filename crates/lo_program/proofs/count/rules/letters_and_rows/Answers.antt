@@ -5,7 +5,7 @@ use Rattle.program_model.specs.Columns.{letters_by}
 use Rattle.program_model.specs.Numbers.{letters_before}
 use Rattle.lo_program.specs.inner.Counts.{phase_rows}
 use Rattle.lo_program.proofs.BitLaws.{letters_before_more}
-use Rattle.lo_program.proofs.CountLaws.{length-letters}
+use Rattle.program_layout.proofs.CountLaws.{length-letters}
 use Rattle.lo_program.proofs.count.rules.letters_and_rows.Goals as goal
 
 pub loop-p-init : goal.loop-p-init

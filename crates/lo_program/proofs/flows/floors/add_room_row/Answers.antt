@@ -5,7 +5,7 @@ use Rattle.ct_base.specs.declared.cell.Cell.{Cell}
 use Rattle.program_model.specs.Columns.{Room, RoomRest}
 use Rattle.program_model.specs.Numbers.{first_column}
 use Rattle.lo_program.specs.inner.Floors.{free_storage}
-use Rattle.lo_program.proofs.CountLaws.{small_first}
+use Rattle.program_layout.proofs.CountLaws.{small_first}
 use Rattle.lo_program.proofs.FloorLaws.{as_held, floor_added, floor_fits, free_light, small_cell}
 use Rattle.lo_program.proofs.flows.floors.add_room_row.Goals as goal
 use mir.Val.{of_z, to_z}

@@ -1,6 +1,6 @@
 use Rattle.std.proofs.Common.{arith}
 use Rattle.program_model.specs.Numbers.{first_column}
-use Rattle.lo_program.proofs.CountLaws.{small_first}
+use Rattle.program_layout.proofs.CountLaws.{small_first}
 use Rattle.lo_program.proofs.flows.rooms.room.Goals as goal
 
 pub overflow_add-units : goal.overflow_add-units

@@ -1,6 +1,6 @@
 use Rattle.std.proofs.Common.{sym, arith}
 use Rattle.std.proofs.lemmas.List.{append-nil}
-use Rattle.lo_program.proofs.CountLaws.{few_of_room}
+use Rattle.program_layout.proofs.CountLaws.{few_of_room}
 use Rattle.lo_program.proofs.MoveTerms.{branch_is_led_into, branches_before-more, branches_more, few_before, few_branches, first_column-small, none_before}
 use Rattle.lo_program.proofs.flows.terms.push_branches.Goals as goal
 

@@ -5,7 +5,7 @@ use Rattle.ct_base.specs.Access.{phase_of}
 use Rattle.program_model.specs.Columns.{letters_by}
 use Rattle.program_model.specs.Numbers.{letters_before}
 use Rattle.lo_program.proofs.BitLaws.{letters_before_more}
-use Rattle.lo_program.proofs.LayoutLaws.{table_more}
+use Rattle.program_layout.proofs.LayoutLaws.{table_more}
 use Rattle.lo_program.proofs.rules.bits.places_of_greens.Goals as goal
 
 pub loop-p-init : goal.loop-p-init

@@ -3,7 +3,7 @@ use Rattle.std.specs.Prelude.{ℤ, pos, neg_ℤ}
 use Rattle.listed.proofs.TableLaws.{table_of-zero}
 use Rattle.program_model.specs.Columns.{Bit}
 use Rattle.program_model.specs.Numbers.{number_of}
-use Rattle.lo_program.proofs.LayoutLaws.{table_more}
+use Rattle.program_layout.proofs.LayoutLaws.{table_more}
 use Rattle.lo_program.proofs.rules.lasting.terms_of_end.Goals as goal
 
 pub loop-k-init : goal.loop-k-init

@@ -1,8 +1,0 @@
-use Rattle.std.proofs.Common.{◌≡◌}
-use Rattle.listed.specs.Below.{join_below}
-use Rattle.lo_program.specs.inner.Columns.{with_columns}
-use Rattle.program_model.specs.Columns.{columns_of_cell}
-use Rattle.lo_program.proofs.columns.add_columns_of_cells.Given as goal
-
-abbrev pub invariant-loop-i : goal.invariant-loop-i
-invariant-loop-i l = l.builder ≡ with_columns l.net l.initial.builder (join_below l.i (columns_of_cell l.net.cells l.t))

@@ -1,9 +1,0 @@
-use Rattle.std.proofs.Common.{◌≡◌, ◌≤◌, take}
-use Rattle.lo_program.specs.inner.Columns.{cap_up_to}
-use Rattle.lo_program.proofs.columns.bounds.cap_of_branches.Given as goal
-
-abbrev pub invariant-loop-target : goal.invariant-loop-target
-invariant-loop-target l = record {
-  value : l.cap ≡ cap_up_to l.cells l.most (take l.target-index l.turns);
-  few : l.cap ≤ l.most;
-}

@@ -1,8 +1,0 @@
-use Rattle.std.proofs.Common.{◌≡◌}
-use Rattle.listed.specs.Below.{table_of}
-use Rattle.lo_program.specs.inner.Columns.{with_columns}
-use Rattle.program_model.specs.Columns.{Switch}
-use Rattle.lo_program.proofs.columns.cell.add_switches.Given as goal
-
-abbrev pub invariant-loop-m : goal.invariant-loop-m
-invariant-loop-m l = l.builder ≡ with_columns l.net l.initial.builder (table_of l._m (Switch l.t l.i))

@@ -1,6 +1,0 @@
--- The branches that are left.
-use Rattle.std.proofs.Common.{length}
-use Rattle.lo_program.proofs.columns.split.+add_branches.Given as goal
-
-abbrev pub decreases-add_branches : goal.decreases-add_branches
-decreases-add_branches l = length l.left.now

@@ -1,8 +1,0 @@
-use Rattle.std.proofs.Common.{◌≡◌, ◌++◌}
-use Rattle.listed.specs.Below.{join_below}
-use Rattle.program_model.specs.Columns.{bits_at}
-use Rattle.lo_program.specs.inner.Points.{counts}
-use Rattle.lo_program.proofs.encoding.bits.push_bits.Given as goal
-
-abbrev pub invariant-loop-step : goal.invariant-loop-step
-invariant-loop-step l = l.values.items ≡ l.initial.values.items ++ counts l.net l.plan.words (join_below l.step (bits_at l.net.signals))

@@ -1,5 +1,0 @@
-use Rattle.std.proofs.Common.{◌≡◌, fold, get_or, min, take}
-use Rattle.lo_program.proofs.encoding.terms.least.Given as goal
-
-abbrev pub invariant-loop-term : goal.invariant-loop-term
-invariant-loop-term l = l.least ≡ fold min (get_or l.terms 0 0) (take l.term-index l.terms)

@@ -1,6 +1,0 @@
-use Rattle.std.proofs.Common.{arith}
-use Rattle.lo_program.proofs.CountLaws.{small_plan}
-use Rattle.lo_program.proofs.layout.making.layout_of.Goals as goal
-
-pub overflow_mul-result : goal.overflow_mul-result
-overflow_mul-result c = rw c.in_ok-bits.ensures.all (omega (arith, small_plan c.args.net.now c.requires))

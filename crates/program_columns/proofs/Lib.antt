@@ -1,0 +1,3 @@
+pub mod BuildingLaws
+pub mod CapLaws
+pub mod CellColumns
