@@ -1,10 +1,12 @@
 -- Certificates of small networks, worked by hand (docs/certificate.md, "Worked by hand"): the definitions compute their values, and
 -- accept them.
-use Rattle.std.proofs.Common.{◌≡◌, ◌≢◌, inl, inr, zero, suc, ◌<◌, ◌≤◌, refl, ℕ, true, false, List, [], ◌∷◌, Some, None, length, arith}
-use Rattle.std.specs.Prelude.{ℤ, pos, negsuc, ◌≤ℤ◌, unsigned_abs}
+use Rattle.std.proofs.Common.{◌≡◌, ◌≢◌, inl, inr, zero, suc, ◌<◌, ◌≤◌, refl, ℕ, true, false, List, [], ◌∷◌, Some, None, length, sym, arith}
+use Rattle.std.specs.Prelude.{ℤ, pos, negsuc, ◌≤ℤ◌, codes, unsigned_abs}
 use Rattle.std.proofs.lemmas.Int.{ints}
 use Rattle.std.proofs.lemmas.List.Elements.{All-cons, All-nil}
 use Rattle.listed.specs.Below.{join_below, sum_below, table_of, whole_sum_below}
+use Rattle.std.specs.Fmt.{digits}
+use Rattle.texts.specs.Lines.{lines_of}
 use Rattle.ct_base.specs.Access.{cell_of, signal_of}
 use Rattle.ct_base.specs.Validity.{IsCell, IsValid}
 use Rattle.ct_base.specs.declared.cell.Cell.{Cell}
@@ -28,11 +30,19 @@ use Rattle.program_model.specs.Numbers.{first_column}
 use Rattle.program_model.specs.Points.{program_of}
 use Rattle.program_model.specs.RuleRows.{rule_rows, rule_rows_at}
 use Rattle.program_model.specs.SwitchRows.{least_rows}
+use Rattle.program_model.proofs.ColumnLaws.{Each, Each-at}
 use Rattle.certificate_model.specs.Certificates.{Certifies, root_of}
 use Rattle.certificate_model.specs.Leaves.{FixesPlan, IsCeiling, IsGoodEmpty, IsGoodFixed}
+use Rattle.certificate_model.specs.Nodes.{LeafNode, Node, SplitNode, nodes_of}
+use Rattle.certificate_model.specs.Reasons.{IsFirst, empty_reasons, pair_reasons, split_reasons}
+use Rattle.certificate_model.specs.Text.{IsSpelled, IsSpelledPair, bound_in, certificate_text, node_in}
 use Rattle.certificate_model.specs.Tree.{AtLeaf, Empty, Fixed, IsLeafOf, IsSplit, Priced, Split, Tree, left_of, right_of}
 use Rattle.certificate_model.specs.Value.{AreLawful, IsSigned, most_price, value, value_of_pairs}
+use Rattle.certificate_model.specs.Verdicts.{AtBound, AtNodes, Broken, IsVerdict}
+use Rattle.certificate_model.specs.declared.verdict.Verdict.TheVariants.{Accepted, Rejected}
+use Rattle.certificate_model.specs.declared.verdict.Why.TheVariants.{Form, Column, Range, Row as NoRow, Order, Price, Sign, Weak, NotEmpty}
 use Rattle.certificate_model.proofs.SafeLaws.{bounds_are_safe}
+use Rattle.certificate_model.proofs.VerdictLaws.{is_accepted}
 
 -- one price is lawful where its row is there and allows it
 one_price : (rows : List Row) (i : ℕ) (price : ℤ) → i < length rows → price ≢ pos 0 → unsigned_abs price ≤ most_price → IsSigned (row_of rows i) price → AreLawful rows ((i, price) ∷ [])
@@ -291,3 +301,135 @@ by_turns_unpriced inner pairs (inr (inl (inl (inl (is, same))))) = absurd (cc sa
 by_turns_unpriced inner pairs (inr (inl (inl (inr (is, same))))) = absurd (cc same)
 by_turns_unpriced inner pairs (inr (inl (inr (is, same)))) = absurd (cc same)
 by_turns_unpriced inner pairs (inr (inr (is, same))) = absurd (cc same)
+
+-- ---- texts and verdicts
+
+-- the text of the leaf of one cell
+pub one_cell_text : certificate_text (pos 1) (nodes_of (AtLeaf (Priced ((1, pos 1024) ∷ [])))) ≡ codes "ctm-cert 1\nbound 1\npriced 1 1024\nend\n"
+unfolding certificate_text digits
+one_cell_text = refl
+
+-- it is accepted
+pub one_cell_accepted : IsVerdict one_cell (codes "ctm-cert 1\nbound 1\npriced 1 1024\nend\n") (Accepted (pos 1))
+one_cell_accepted =
+    let leaf : Node = LeafNode (Priced ((1, pos 1024) ∷ [])) in
+    is_accepted one_cell (codes "ctm-cert 1\nbound 1\npriced 1 1024\nend\n") (pos 1) (record {
+      tree = AtLeaf (Priced ((1, pos 1024) ∷ []));
+      reads = record {
+        written = sym one_cell_text;
+        bound = omega arith;
+        nodes = All-cons IsSpelled leaf [] (All-cons IsSpelledPair (1, pos 1024) [] (record { row = omega arith; some = λ same. absurd (cc); price = omega arith }) (All-nil IsSpelledPair)) (All-nil IsSpelled);
+      };
+      certifies = one_cell_certified;
+    })
+
+-- a bound above it breaks at the leaf, which gives the number 1
+pub one_cell_weak : IsVerdict one_cell (codes "ctm-cert 1\nbound 2\npriced 1 1024\nend\n") (Rejected 3 (Weak (pos 1)))
+unfolding lines_of bound_in node_in join_below sum_below whole_sum_below table_of bits_at columns columns_of_cell columns_of_cells letters_of plan_columns rule_rows rule_rows_at flow_rows flow_rows_at first_column least_rows program_of value
+one_cell_weak = record {
+  last = Broken 3 (Weak (pos 1));
+  reached = (AtBound, (refl, (AtNodes (pos 2) (root_of one_cell ∷ []), (refl, (Broken 3 (Weak (pos 1)), (inr (Weak (pos 1), (refl, refl)), (Broken 3 (Weak (pos 1)), (refl, refl))))))));
+  is = refl;
+}
+
+-- the reasons of pairs on its five rows, pair by pair: a price below 0 on a row that need not be equal, a row that is not above the
+-- one before, a row that does not exist, and a price that is too great
+pub one_cell_reasons : pair_reasons (program_of one_cell).rows 0 ((1, negsuc 0) ∷ (1, pos 1) ∷ (5, pos 1) ∷ (6, pos 1099511627777) ∷ []) ≡ Sign ∷ Order ∷ NoRow ∷ NoRow ∷ Price ∷ []
+unfolding join_below sum_below table_of bits_at columns columns_of_cell columns_of_cells letters_of plan_columns rule_rows rule_rows_at flow_rows flow_rows_at first_column least_rows program_of
+one_cell_reasons = refl
+
+-- a split of a column that does not exist
+pub one_cell_column : IsFirst Column (split_reasons (root_of one_cell) 4 (pos 0))
+unfolding join_below sum_below table_of bits_at columns columns_of_cell columns_of_cells letters_of plan_columns rule_rows rule_rows_at flow_rows flow_rows_at first_column least_rows program_of
+one_cell_column = refl
+
+-- a split at the high of its column
+pub one_cell_range : split_reasons (root_of one_cell) 1 (pos 2) ≡ Range ∷ []
+unfolding join_below sum_below table_of bits_at columns columns_of_cell columns_of_cells letters_of plan_columns rule_rows rule_rows_at flow_rows flow_rows_at first_column least_rows program_of
+one_cell_range = refl
+
+-- an empty leaf whose value without costs is below 1
+pub one_cell_not_empty : empty_reasons one_cell (root_of one_cell) [] ≡ NotEmpty (pos 0) ∷ []
+unfolding join_below sum_below whole_sum_below table_of bits_at columns columns_of_cell columns_of_cells letters_of plan_columns rule_rows rule_rows_at flow_rows flow_rows_at first_column least_rows program_of value
+one_cell_not_empty = refl
+
+-- a price of 0 has no spelling, so its line is of no form
+pub one_cell_form : IsVerdict one_cell (codes "ctm-cert 1\nbound 1\npriced 1 0\nend\n") (Rejected 3 Form)
+unfolding lines_of bound_in node_in
+one_cell_form = record {
+  last = Broken 3 Form;
+  reached = (AtBound, (refl, (AtNodes (pos 1) (root_of one_cell ∷ []), (refl, (Broken 3 Form, (refl, (Broken 3 Form, (refl, refl))))))));
+  is = refl;
+}
+
+-- a text whose last line feed is missing
+pub one_cell_cut : IsVerdict one_cell (codes "ctm-cert 1\nbound 1") (Rejected 2 Form)
+unfolding lines_of
+one_cell_cut = record { last = AtBound; reached = (AtBound, (refl, refl)); is = refl }
+
+-- the text of the tree of turns
+pub by_turns_text : certificate_text (pos 1) (nodes_of by_turns_tree) ≡ codes "ctm-cert 1\nbound 1\nsplit 2 0\nsplit 3 0\nempty 5 1\nsplit 4 0\nsplit 5 0\nempty 8 1\nfixed\nsplit 5 0\nfixed\nempty 8 -1\nsplit 3 0\nsplit 4 0\nsplit 5 0\nempty 8 1\nfixed\nempty 3 1\nempty 5 -1\nend\n"
+unfolding certificate_text digits
+by_turns_text = refl
+
+-- a split of a bit has a spelling
+split_spelled : (j : ℕ) → j < 48 → IsSpelled (SplitNode j (pos 0))
+split_spelled j there = (omega (arith, there), omega arith)
+
+-- and an empty leaf of one price
+empty_spelled : (i : ℕ) (price : ℤ) → i < 72 → price ≢ pos 0 → unsigned_abs price ≤ 1 → IsSpelled (LeafNode (Empty ((i, price) ∷ [])))
+empty_spelled i price there some one = All-cons IsSpelledPair (i, price) [] (record { row = omega (arith, there); some = some; price = omega (arith, one) }) (All-nil IsSpelledPair)
+
+-- all nodes of the tree have one
+by_turns_spelled : Each IsSpelled (nodes_of by_turns_tree)
+by_turns_spelled = (
+  split_spelled 2 (omega arith),
+  (
+    split_spelled 3 (omega arith),
+    (
+      empty_spelled 5 (pos 1) (omega arith) (λ same. absurd (cc)) (omega arith),
+      (
+        split_spelled 4 (omega arith),
+        (
+          split_spelled 5 (omega arith),
+          (
+            empty_spelled 8 (pos 1) (omega arith) (λ same. absurd (cc)) (omega arith),
+            (
+              tt,
+              (
+                split_spelled 5 (omega arith),
+                (
+                  tt,
+                  (
+                    empty_spelled 8 (negsuc 0) (omega arith) (λ same. absurd (cc)) (omega arith),
+                    (
+                      split_spelled 3 (omega arith),
+                      (
+                        split_spelled 4 (omega arith),
+                        (
+                          split_spelled 5 (omega arith),
+                          (
+                            empty_spelled 8 (pos 1) (omega arith) (λ same. absurd (cc)) (omega arith),
+                            (tt, (empty_spelled 3 (pos 1) (omega arith) (λ same. absurd (cc)) (omega arith), (empty_spelled 5 (negsuc 0) (omega arith) (λ same. absurd (cc)) (omega arith), tt))),
+                          ),
+                        ),
+                      ),
+                    ),
+                  ),
+                ),
+              ),
+            ),
+          ),
+        ),
+      ),
+    ),
+  ),
+)
+
+-- so it is accepted
+pub by_turns_accepted : IsVerdict by_turns (certificate_text (pos 1) (nodes_of by_turns_tree)) (Accepted (pos 1))
+by_turns_accepted = is_accepted by_turns (certificate_text (pos 1) (nodes_of by_turns_tree)) (pos 1) (record {
+  tree = by_turns_tree;
+  reads = record { written = refl; bound = omega arith; nodes = λ k d within. Each-at IsSpelled (nodes_of by_turns_tree) k d by_turns_spelled within };
+  certifies = by_turns_certified;
+})

@@ -1,16 +1,17 @@
 -- The value of prices over a box (docs/certificate.md, "Value"). Weak duality with bounded variables, after Neumaier and
 -- Shcherbina 2004. Prices and values count 1024ths of a unit of delay.
-use Rattle.std.specs.Prelude.{◌≡◌, ◌≢◌, ◌⊎◌, ℕ, ◌<◌, ◌≤◌, ◌^◌, ℤ, pos, ◌+ℤ◌, ◌-ℤ◌, ◌*ℤ◌, ◌≤ℤ◌, unsigned_abs, Bool, true, if◌then◌else◌, List, length, All}
+use Rattle.std.specs.Prelude.{◌≡◌, ◌≢◌, ◌⊎◌, ℕ, ◌<◌, ◌≤◌, ℤ, pos, ◌+ℤ◌, ◌-ℤ◌, ◌*ℤ◌, ◌≤ℤ◌, unsigned_abs, Bool, true, if◌then◌else◌, List, length, All}
 use Rattle.std.specs.Int.{int_min}
 use Rattle.listed.specs.Below.{whole_sum_below}
 use Rattle.sparse_program.specs.Box.{Ranges, high_of, low_of}
 use Rattle.sparse_program.specs.Program.{Holds, IsRow, Parts, col_of, column_of, row_of}
 use Rattle.sparse_program.specs.Terms.{Rises, coefficient, terms_sum}
 use Rattle.sparse_program.specs.declared.row.Row.{Row}
+use Rattle.certificate_model.specs.declared.constants.TheConstants.{MAX_PRICE, SCALE}
 
 -- how many parts of prices are one unit of delay
 abbrev pub scale : ℕ
-scale = 1024
+scale = SCALE
 
 -- what one unit of a column costs, or nothing where costs are left out
 abbrev pub cost_counted : Parts → Bool → ℕ → ℤ
@@ -32,7 +33,7 @@ value program with_cost box prices =
 
 -- the greatest absolute value of a price
 abbrev pub most_price : ℕ
-most_price = 2 ^ 40
+most_price = MAX_PRICE
 
 -- a price is allowed on a row: it is not below 0 where the row need not be equal
 abbrev pub IsSigned : Row → ℤ → Type 0
