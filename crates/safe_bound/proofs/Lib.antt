@@ -1,0 +1,4 @@
+pub mod PriceLaws
+pub mod CostedLaws
+pub mod PaidLaws
+pub mod PairLaws

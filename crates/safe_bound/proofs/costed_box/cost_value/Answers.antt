@@ -1,0 +1,31 @@
+use Rattle.std.proofs.Common.{◌≡◌, ap, ◌∙◌, arith}
+use Rattle.std.specs.Prelude.{ℤ, pos, ◌*ℤ◌, ◌≤ℤ◌, ◌<ℤ◌}
+use Rattle.std.proofs.lemmas.Int.{ints}
+use Rattle.sparse_program.specs.Box.{high_of, low_of}
+use Rattle.sparse_program.specs.Terms.{IsSmall}
+use Rattle.safe_bound.proofs.CostedLaws.{least_at_high, least_at_low, small_product, small_product-small}
+use Rattle.safe_bound.proofs.costed_box.cost_value.Goals as goal
+
+pub returns-then-cost-ge0-clause-value : goal.returns-then-cost-ge0-clause-value
+returns-then-cost-ge0-clause-value c =
+    let low : c.low.result ≡ low_of c.args.bounds.now c.args.j = omega (arith, ints) in
+    let above : pos 0 ≤ℤ c.args.cost = grind (arith, ints) in
+    small_product c.args.cost c.low.result c.requires.few (omega (arith, ints)) ∙ ap (λ (z : ℤ). c.args.cost *ℤ z) low
+    ∙ least_at_low c.args.cost (low_of c.args.bounds.now c.args.j) (high_of c.args.bounds.now c.args.j) above (omega (arith, ints))
+
+pub returns-then-cost-ge0-clause-small : goal.returns-then-cost-ge0-clause-small
+returns-then-cost-ge0-clause-small c =
+    let small : IsSmall c.low.result = omega (arith, ints) in
+    rw (small_product c.args.cost c.low.result c.requires.few small) (small_product-small c.args.cost c.low.result c.requires.few small)
+
+pub returns-else-cost-ge0-clause-value : goal.returns-else-cost-ge0-clause-value
+returns-else-cost-ge0-clause-value c =
+    let high : c.high.result ≡ high_of c.args.bounds.now c.args.j = omega (arith, ints) in
+    let below : c.args.cost <ℤ pos 0 = grind (arith, ints) in
+    small_product c.args.cost c.high.result c.requires.few (omega (arith, ints)) ∙ ap (λ (z : ℤ). c.args.cost *ℤ z) high
+    ∙ least_at_high c.args.cost (low_of c.args.bounds.now c.args.j) (high_of c.args.bounds.now c.args.j) below (omega (arith, ints))
+
+pub returns-else-cost-ge0-clause-small : goal.returns-else-cost-ge0-clause-small
+returns-else-cost-ge0-clause-small c =
+    let small : IsSmall c.high.result = omega (arith, ints) in
+    rw (small_product c.args.cost c.high.result c.requires.few small) (small_product-small c.args.cost c.high.result c.requires.few small)
