@@ -1,0 +1,4 @@
+pub mod LetterLaws
+pub mod PartLaws
+pub mod WordLaws
+pub mod PlanLaws
