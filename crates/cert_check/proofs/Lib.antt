@@ -1,0 +1,4 @@
+pub mod WalkLaws
+pub mod CheckerLaws
+pub mod ReasonFirsts
+pub mod FirstPairs

@@ -1,0 +1,18 @@
+use Rattle.std.proofs.Common.{◌≡◌, ◌+◌, ◌<◌, ◌^◌, length}
+use Rattle.texts.specs.Lines.{behind_lines, lines_of}
+use Rattle.certificate_model.specs.Verdicts.{Reaches, Standing}
+use Rattle.cert_check.specs.inner.Standings.{IsCheckerOf, standing_of}
+use Rattle.cert_check.proofs.checker.Checker.lines.Given as goal
+
+abbrev pub invariant-loop-line : goal.invariant-loop-line
+invariant-loop-line l = record {
+  of : IsCheckerOf l.net l.self;
+  few : l.self.line + length l.rest < 2 ^ 64;
+  reached : (last : Standing) → Reaches l.net l.self.line (standing_of l.self) (lines_of l.rest) last →
+      Reaches l.net l.initial.self.line (standing_of l.initial.self) (lines_of l.text) last;
+  line : l.self.line + length (lines_of l.rest) ≡ l.initial.self.line + length (lines_of l.text);
+  behind : behind_lines l.rest ≡ behind_lines l.text;
+}
+
+abbrev pub decreases-loop-line : goal.decreases-loop-line
+decreases-loop-line l = length l.rest

@@ -1,0 +1,2 @@
+pub mod Deserved
+pub mod inner
