@@ -12,7 +12,7 @@ use Rattle.signal_cli.specs.declared.reply.Reply.{Reply}
 use Rattle.signal_cli.proofs.Unnamed.{names_of, same_writes, untouched_read, untouched_shelf, untouched_stopped, untouched_written}
 
 -- the status of a reply is 0 or 1
-small_status : (reply : Reply) → reply_status reply ≤ 1
+pub small_status : (reply : Reply) → reply_status reply ≤ 1
 small_status reply = elim reply.rejected as (λ rejected. (if rejected then 1 else 0) ≤ 1) [ true ↦ omega arith | false ↦ omega arith ]
 
 status_of_reply : (reply : Reply) → Contains statuses_of_commands (reply_status reply)

@@ -1,3 +1,5 @@
+pub mod BoundLaws
+pub mod BoundPromises
 pub mod FileLists
 pub mod KeptPromises
 pub mod KnownLimits

@@ -1,13 +1,17 @@
 -- A reply that a command deserves writes the outputs of the command, and no other files.
-use Rattle.std.proofs.Common.{◌≡◌, ℕ, List, [], ◌∷◌, Some, None, Result, Ok, Err, ap, sym}
+use Rattle.std.proofs.Common.{◌≡◌, ℕ, List, [], ◌∷◌, Some, None, Result, Ok, Err, refl, ap, sym, ◌∙◌}
 use Rattle.shelf_io.specs.Told.{Files}
 use Rattle.ct_base.specs.declared.net.Net.{Net}
 use Rattle.ct_base.specs.declared.signal.Signal.{Signal}
 use Rattle.named_net.specs.Naming.{Named}
 use Rattle.program_model.specs.Points.{program_of}
-use Rattle.signal_cli.specs.Answers.{◌>>=◌, Deserves, network_in, planned_in, point_reply, printed, program_reply, replay_alone, replay_lines, sized_in, sized_planned_in, trace_reply}
-use Rattle.signal_cli.specs.Commands.{Command, Encode, Program, Replay, Trace, outputs_of}
+use Rattle.certificate_model.specs.declared.verdict.Verdict.{Verdict}
+use Rattle.certificate_model.specs.declared.verdict.Verdict.TheVariants.{Accepted, Rejected}
+use Rattle.signal_cli.specs.Answers.{◌>>=◌, Deserves, Follows, IsJudged, check_reply, gap_reply, network_in, planned_in, point_reply, printed, program_reply, replay_alone, replay_lines, sized_in, sized_planned_in, trace_reply, with_certificate}
+use Rattle.signal_cli.specs.Commands.{Check, Command, Encode, Gap, Program, Replay, Trace, outputs_of}
 use Rattle.signal_cli.specs.declared.fault.Fault.{Fault}
+use Rattle.signal_cli.specs.declared.input.Content.{Content}
+use Rattle.signal_cli.specs.declared.input.Content.TheVariants.{TooLong, Whole}
 use Rattle.signal_cli.specs.declared.input.Planned.{Planned}
 use Rattle.signal_cli.specs.declared.reply.Reply.{Reply}
 use Rattle.signal_cli.proofs.Unnamed.{names_of}
@@ -27,6 +31,24 @@ alone : (net : Net) (signals : List Signal) (reply : Reply) → replay_alone net
 alone net [] reply is = known_reply (printed (replay_lines net [])) reply is
 alone net (signal ∷ signals) reply is = absurd (cc)
 
+-- a reply that is due to what was read
+due : {X : Type 0} (made : Result X Fault) (IsDue : X → Reply → Type 0) (names : List (List ℕ)) → ((x : X) (reply : Reply) → IsDue x reply → names_of reply.outputs ≡ names) → (reply : Reply) → Follows made IsDue (Ok reply) → names_of reply.outputs ≡ names
+due (Ok x) IsDue names each reply is = each x reply is
+due (Err fault) IsDue names each reply is = absurd (cc)
+
+-- the reply to a certificate writes no file
+judged : (net : Net) (answer : Verdict → Reply) → ((verdict : Verdict) → names_of (answer verdict).outputs ≡ []) → (content : Content) (reply : Reply) → IsJudged net answer content reply → names_of reply.outputs ≡ []
+judged net answer each TooLong reply is = ap (λ (reply : Reply). names_of reply.outputs) is
+judged net answer each (Whole bytes) reply is = ap (λ (reply : Reply). names_of reply.outputs) is.2 ∙ each is.0
+
+checked : (verdict : Verdict) → names_of (check_reply verdict).outputs ≡ []
+checked (Accepted bound) = refl
+checked (Rejected number why) = refl
+
+compared : (planned : Planned) (verdict : Verdict) → names_of (gap_reply planned verdict).outputs ≡ []
+compared planned (Accepted bound) = refl
+compared planned (Rejected number why) = refl
+
 pub outputs_are_named : (command : Command) (files : Files) (reply : Reply) → Deserves command files (Ok reply) → names_of reply.outputs ≡ outputs_of command
 outputs_are_named (Replay network None) files reply is =
     at_the_end (network_in files network) (λ (named : Named). replay_alone named.net named.net.signals) [] (λ named reply is. alone named.net named.net.signals reply is) reply is
@@ -38,3 +60,7 @@ outputs_are_named (Program network text) files reply is =
     at_the_end (sized_in files network) (λ (named : Named). Ok (program_reply text (program_of named.net))) (text ∷ []) (λ named reply is. known_reply (program_reply text (program_of named.net)) reply is) reply is
 outputs_are_named (Encode network plan text) files reply is =
     at_the_end (sized_planned_in files network plan) (λ (planned : Planned). Ok (point_reply text planned)) (text ∷ []) (λ planned reply is. known_reply (point_reply text planned) reply is) reply is
+outputs_are_named (Check network certificate) files reply is =
+    due (with_certificate (sized_in files network) files certificate) (λ read. IsJudged read.0.net check_reply read.1) [] (λ read reply is. judged read.0.net check_reply checked read.1 reply is) reply is
+outputs_are_named (Gap network plan certificate) files reply is =
+    due (with_certificate (sized_planned_in files network plan) files certificate) (λ read. IsJudged read.0.named.net (gap_reply read.0) read.1) [] (λ read reply is. judged read.0.named.net (gap_reply read.0) (compared read.0) read.1 reply is) reply is

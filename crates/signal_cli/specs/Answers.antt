@@ -1,6 +1,6 @@
 -- What a command deserves where the bytes of its files are told: a reply, or the first fault in the order of judging
 -- (README.md, "Statuses").
-use Rattle.std.specs.Prelude.{◌≡◌, ℕ, ℤ, false, nat_lt, if◌then◌else◌, List, [], ◌∷◌, ◌++◌, length, Option, Some, None, Result, Ok, Err, codes}
+use Rattle.std.specs.Prelude.{◌≡◌, ℕ, ℤ, true, false, nat_lt, if◌then◌else◌, List, [], ◌∷◌, ◌++◌, length, Option, Some, None, Result, Ok, Err, codes}
 use Rattle.std.specs.Fmt.{decimal}
 use Rattle.limits.specs.declared.TheConstants.{MAX_FILE_BYTES}
 use Rattle.shelf_io.specs.Told.{Files, bytes_of}
@@ -24,8 +24,14 @@ use Rattle.plan_report.specs.Table.{trace_text}
 use Rattle.program_text.specs.PointText.{point_text}
 use Rattle.program_text.specs.ProgramText.{program_text}
 use Rattle.refusals.specs.Faults.{unless}
-use Rattle.signal_cli.specs.Commands.{Command, Encode, Program, Replay, Trace}
+use Rattle.certificate_model.specs.Verdicts.{IsVerdict}
+use Rattle.certificate_model.specs.declared.constants.TheConstants.{MAX_CERTIFICATE_BYTES}
+use Rattle.certificate_model.specs.declared.verdict.Verdict.{Verdict}
+use Rattle.certificate_model.specs.declared.verdict.Verdict.TheVariants.{Accepted, Rejected}
+use Rattle.signal_cli.specs.BoundLines.{accepted_lines, gap_lines}
+use Rattle.signal_cli.specs.Commands.{Check, Command, Encode, Gap, Program, Replay, Trace}
 use Rattle.signal_cli.specs.Faults.{uncompiled_of}
+use Rattle.signal_cli.specs.RejectionLines.{long_lines, rejected_lines}
 use Rattle.signal_cli.specs.declared.fault.Fault.{Fault}
 use Rattle.signal_cli.specs.declared.fault.Fault.TheVariants.{NetworkLong, Network, PlanLong, Plan as PlanRefused, Read}
 use Rattle.signal_cli.specs.declared.input.Content.{Content}
@@ -173,9 +179,52 @@ point_reply text planned =
 abbrev pub encode_in : Files → List ℕ → List ℕ → List ℕ → Result Reply Fault
 encode_in files network plan text = sized_planned_in files network plan >>= (λ planned. Ok (point_reply text planned))
 
+-- what was read first, and what the named file holds as a certificate, which is read where there is no fault yet
+abbrev pub with_certificate : {X : Type 0} → Result X Fault → Files → List ℕ → Result (X × Content) Fault
+with_certificate first files certificate = first >>= (λ x. content_in files certificate MAX_CERTIFICATE_BYTES >>= (λ content. Ok (x, content)))
+
+-- the reply that is due to what was read, or the fault that came in its place
+abbrev pub Follows : {X : Type 0} → Result X Fault → (X → Reply → Type 0) → Result Reply Fault → Type 0
+Follows (Ok x) IsDue (Ok reply) = IsDue x reply
+Follows (Ok x) IsDue (Err fault) = ⊥
+Follows (Err fault) IsDue outcome = Err fault ≡ outcome
+
+-- lines that say why a certificate is not accepted
+abbrev pub rejection : List ℕ → Reply
+rejection lines = record { rejected = true; lines = lines; outputs = [] }
+
+-- the reply to what a file holds as a certificate for a network: that it is too long, or what is answered to its verdict
+abbrev pub IsJudged : Net → (Verdict → Reply) → Content → Reply → Type 0
+IsJudged net answer TooLong reply = reply ≡ rejection long_lines
+IsJudged net answer (Whole bytes) reply = (verdict : Verdict) × IsVerdict net bytes verdict × (reply ≡ answer verdict)
+
+-- what is answered to a verdict
+abbrev pub check_reply : Verdict → Reply
+check_reply (Accepted bound) = printed (accepted_lines bound)
+check_reply (Rejected number why) = rejection (rejected_lines number why)
+
+-- `check NET CERT`
+abbrev pub CheckGives : List ℕ → List ℕ → Files → Result Reply Fault → Type 0
+CheckGives network certificate files outcome =
+    Follows (with_certificate (sized_in files network) files certificate) (λ read. IsJudged read.0.net check_reply read.1) outcome
+
+-- what is answered to a verdict for a plan: where the bound is accepted, how far the plan's delay is above it
+abbrev pub gap_reply : Planned → Verdict → Reply
+gap_reply planned (Accepted bound) =
+    let net = planned.named.net in
+    printed (gap_lines (delay_of net.cells (letters_at planned.plan.words) net.steps) bound)
+gap_reply planned (Rejected number why) = rejection (rejected_lines number why)
+
+-- `gap NET PLAN CERT`
+abbrev pub GapGives : List ℕ → List ℕ → List ℕ → Files → Result Reply Fault → Type 0
+GapGives network plan certificate files outcome =
+    Follows (with_certificate (sized_planned_in files network plan) files certificate) (λ read. IsJudged read.0.named.net (gap_reply read.0) read.1) outcome
+
 -- which outcome the files deserve of a command: a reply, or the first fault in the order of judging
 abbrev pub Deserves : Command → Files → Result Reply Fault → Type 0
 Deserves (Replay network plan) files outcome = replay_of files network plan ≡ outcome
 Deserves (Trace network plan table) files outcome = trace_in files network plan table ≡ outcome
 Deserves (Program network text) files outcome = program_in files network text ≡ outcome
 Deserves (Encode network plan text) files outcome = encode_in files network plan text ≡ outcome
+Deserves (Check network certificate) files outcome = CheckGives network certificate files outcome
+Deserves (Gap network plan certificate) files outcome = GapGives network plan certificate files outcome

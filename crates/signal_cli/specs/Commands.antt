@@ -9,6 +9,8 @@ pub data Command : Type 0 where
   Trace : (network plan table : List ℕ) → Command
   Program : (network text : List ℕ) → Command
   Encode : (network plan text : List ℕ) → Command
+  Check : (network certificate : List ℕ) → Command
+  Gap : (network plan certificate : List ℕ) → Command
 
 -- the files of a command that are read, in the order of reading
 abbrev pub inputs_of : Command → List (List ℕ)
@@ -17,6 +19,8 @@ inputs_of (Replay network (Some plan)) = network ∷ plan ∷ []
 inputs_of (Trace network plan table) = network ∷ plan ∷ []
 inputs_of (Program network text) = network ∷ []
 inputs_of (Encode network plan text) = network ∷ plan ∷ []
+inputs_of (Check network certificate) = network ∷ certificate ∷ []
+inputs_of (Gap network plan certificate) = network ∷ plan ∷ certificate ∷ []
 
 -- the files of a command that are written, in the order of writing
 abbrev pub outputs_of : Command → List (List ℕ)
@@ -24,6 +28,8 @@ outputs_of (Replay network plan) = []
 outputs_of (Trace network plan table) = table ∷ []
 outputs_of (Program network text) = text ∷ []
 outputs_of (Encode network plan text) = text ∷ []
+outputs_of (Check network certificate) = []
+outputs_of (Gap network plan certificate) = []
 
 -- the name has no byte
 abbrev pub is_empty : List ℕ → Bool
@@ -40,10 +46,12 @@ abbrev pub form_of : List (List ℕ) → Option Command
 form_of (command ∷ network ∷ []) = if bytes_eq command (codes "replay") then Some (Replay network None) else None
 form_of (command ∷ network ∷ second ∷ []) =
     if bytes_eq command (codes "replay") then Some (Replay network (Some second)) else
-    (if bytes_eq command (codes "program") then Some (Program network second) else None)
-form_of (command ∷ network ∷ plan ∷ out ∷ []) =
-    if bytes_eq command (codes "trace") then Some (Trace network plan out) else
-    (if bytes_eq command (codes "encode") then Some (Encode network plan out) else None)
+    (if bytes_eq command (codes "program") then Some (Program network second) else
+    (if bytes_eq command (codes "check") then Some (Check network second) else None))
+form_of (command ∷ network ∷ plan ∷ third ∷ []) =
+    if bytes_eq command (codes "trace") then Some (Trace network plan third) else
+    (if bytes_eq command (codes "encode") then Some (Encode network plan third) else
+    (if bytes_eq command (codes "gap") then Some (Gap network plan third) else None))
 form_of _ = None
 
 -- a command whose files have names that differ

@@ -1,7 +1,11 @@
+pub mod Accepted
 pub mod Answers
+pub mod BoundLines
+pub mod Bounds
 pub mod Commands
 pub mod Faults
 pub mod Program
 pub mod Promises
+pub mod RejectionLines
 pub mod Worlds
 pub mod inner

@@ -32,6 +32,17 @@ pub enum Command<'a> {
         plan: &'a str,
         text: &'a str,
     },
+    /// Whether a certificate shows its bound for a network.
+    Check {
+        network: &'a str,
+        certificate: &'a str,
+    },
+    /// How far the delay of a plan is above the bound of a certificate.
+    Gap {
+        network: &'a str,
+        plan: &'a str,
+        certificate: &'a str,
+    },
 }
 
 /// The command that the words ask for, or none where they are of no form.
@@ -64,6 +75,10 @@ fn form(words: &[Text]) -> Option<Command<'_>>
             network: network.as_str(),
             text: text.as_str(),
         }),
+        [command, network, certificate] if command.as_str() == "check" => Some(Command::Check {
+            network: network.as_str(),
+            certificate: certificate.as_str(),
+        }),
         [command, network, plan, table] if command.as_str() == "trace" => Some(Command::Trace {
             network: network.as_str(),
             plan: plan.as_str(),
@@ -73,6 +88,11 @@ fn form(words: &[Text]) -> Option<Command<'_>>
             network: network.as_str(),
             plan: plan.as_str(),
             text: text.as_str(),
+        }),
+        [command, network, plan, certificate] if command.as_str() == "gap" => Some(Command::Gap {
+            network: network.as_str(),
+            plan: plan.as_str(),
+            certificate: certificate.as_str(),
         }),
         _ => None,
     }
@@ -102,6 +122,15 @@ fn has_names(command: &Command<'_>) -> bool
             plan,
             text,
         } => are_three_names(network, plan, text),
+        Command::Check {
+            network,
+            certificate,
+        } => are_two_names(network, certificate),
+        Command::Gap {
+            network,
+            plan,
+            certificate,
+        } => are_three_names(network, plan, certificate),
     }
 }
 

@@ -6,8 +6,11 @@ ghost use Rattle.signal_cli.specs.inner.Causes.{Finds};
 ghost use Rattle.signal_cli.specs.Commands.{are_names, inputs_of, outputs_of};
 ghost use Rattle.signal_cli.specs.inner.CommandViews.{view_of};
 
+mod check;
 mod encode;
+mod gap;
 mod program;
+mod rejection;
 mod replay;
 mod trace;
 
@@ -35,5 +38,14 @@ pub fn answer<F: Shelf>(alloc: Global, command: Command<'_>, shelf: &mut F) -> R
             plan,
             text,
         } => encode::encode(alloc, network, plan, text, shelf),
+        Command::Check {
+            network,
+            certificate,
+        } => check::check(alloc, network, certificate, shelf),
+        Command::Gap {
+            network,
+            plan,
+            certificate,
+        } => gap::gap(alloc, network, plan, certificate, shelf),
     }
 }

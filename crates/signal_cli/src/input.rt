@@ -1,14 +1,16 @@
-//! What a command reads: networks and plans, each judged as soon as its bytes are there.
+//! What a command reads: networks and plans, each judged as soon as its bytes are there, and certificates.
 
 ghost use Rattle.std.specs.Prelude.{◌≡◌, ◌≤◌, [], false, Err, IfErr, IfOk, OnOk};
 ghost use Rattle.std.specs.Str.{bytes_eq};
 ghost use Rattle.traffic_model.specs.Runs.{IsAdmissiblePlan};
 ghost use Rattle.lo_program.specs.Compiled.{size_faults};
 ghost use Rattle.signal_cli.specs.Answers.{content_in, network, network_from, network_in, plan, plan_from, plan_in, planned_in, sized, sized_in, sized_planned_in};
-ghost use Rattle.signal_cli.specs.inner.Causes.{Finds, Gives, ended_as};
+ghost use Rattle.signal_cli.specs.inner.Causes.{Finds, Gives, IsWithin, ended_as};
+ghost use Rattle.certificate_model.specs.declared.constants.TheConstants.{MAX_CERTIFICATE_BYTES};
 ghost use Rattle.signal_cli.specs.declared.fault.Fault.TheVariants as fault;
 
 use crate::fault::Fault;
+use certificate_model::MAX_CERTIFICATE_BYTES;
 use ct_base::{Listed, Plan};
 use limits::MAX_FILE_BYTES;
 use lo_program::judge_size;
@@ -102,11 +104,24 @@ pub fn read_sized_planned<F: Shelf>(
 ) -> Result<Planned, Fault>
     requires { bytes_eq network.now plan.now ≡ false }
     ensures found { Finds (λ files outcome. sized_planned_in files network.now plan.now ≡ outcome) result (F.state shelf.old) (F.state shelf.new) }
+    ensures small { IfOk result (λ planned. size_faults planned.named.net ≡ []) }
     ensures admissible { IfOk result (λ planned. IsAdmissiblePlan planned.named.net planned.plan) }
 {
     let named = read_sized(alloc, shelf, network)?;
     let plan = read_plan(alloc, shelf, plan, &named)?;
     Ok(Planned { named, plan })
+}
+
+/// What a file holds as a certificate.
+pub fn read_certificate<F: Shelf>(
+    alloc: Global,
+    shelf: &mut F,
+    name: &str,
+) -> Result<Content, Fault>
+    ensures found { Finds (λ files outcome. content_in files name.now MAX_CERTIFICATE_BYTES ≡ outcome) result (F.state shelf.old) (F.state shelf.new) }
+    ensures within { IfOk result (IsWithin MAX_CERTIFICATE_BYTES) }
+{
+    read_content(alloc, shelf, name, MAX_CERTIFICATE_BYTES)
 }
 
 /// What a file holds of which at most so many bytes are wanted.
@@ -117,7 +132,8 @@ fn read_content<F: Shelf>(
     limit: u64,
 ) -> Result<Content, Fault>
     requires { limit ≤ 134217728 }
-    ensures { Finds (λ files outcome. content_in files name.now limit ≡ outcome) result (F.state shelf.old) (F.state shelf.new) }
+    ensures found { Finds (λ files outcome. content_in files name.now limit ≡ outcome) result (F.state shelf.old) (F.state shelf.new) }
+    ensures within { IfOk result (IsWithin limit) }
 {
     match read_all(alloc, shelf, name, limit) {
         Ok(bytes) => Ok(Content::Whole(Listed::of(bytes))),

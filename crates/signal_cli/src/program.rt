@@ -4,6 +4,8 @@ ghost use Rattle.std.specs.Prelude.{◌≡◌, ◌⊎◌, [], IfErr, IfOk, None,
 ghost use Rattle.std.specs.Process.{exit_status};
 ghost use Rattle.std.specs.Vec.Iter.{into_iter_items};
 ghost use Rattle.std.specs.IoError.{error_kind};
+ghost use Rattle.signal_cli.specs.Accepted.{IsExact};
+ghost use Rattle.signal_cli.specs.Bounds.{IsSound};
 ghost use Rattle.signal_cli.specs.Commands.{command_of};
 ghost use Rattle.signal_cli.specs.Program.{EndsAtOnce};
 ghost use Rattle.signal_cli.specs.Promises.{Keeps};
@@ -32,6 +34,8 @@ pub fn planner<F: Shelf, K: Sink>(
         ⊎ EndsAtOnce (world (F.state shelf.old) (K.state out.old)) (world (F.state shelf.new) (K.state out.new)) (exit_status result)) }
     ensures no_words { IfErr args (λ error. Keeps None (world (F.state shelf.old) (K.state out.old)) (world (F.state shelf.new) (K.state out.new)) (exit_status result)
         ⊎ ((error_kind error ≡ ErrorKind.OutOfMemory) × EndsAtOnce (world (F.state shelf.old) (K.state out.old)) (world (F.state shelf.new) (K.state out.new)) (exit_status result))) }
+    ensures sound { IfOk args (λ args. IsSound (command_of (map string_bytes (drop 1 (into_iter_items args)))) (world (F.state shelf.old) (K.state out.old)) (world (F.state shelf.new) (K.state out.new)) (exit_status result)) }
+    ensures exact { IfOk args (λ args. IsExact (command_of (map string_bytes (drop 1 (into_iter_items args)))) (world (F.state shelf.old) (K.state out.old)) (world (F.state shelf.new) (K.state out.new)) (exit_status result)) }
 {
     let status = match words_of(alloc, args) {
         Ok(words) => run(alloc, &words, shelf, out),

@@ -1,7 +1,7 @@
 //! What a command answers where nothing stands in its way.
 
 ghost use Rattle.std.specs.Prelude.{◌≡◌, IfOk};
-ghost use Rattle.signal_cli.specs.Answers.{filed};
+ghost use Rattle.signal_cli.specs.Answers as said;
 
 use ct_base::Memory;
 use shelf_io::{File, FileList, Listed, Text};
@@ -19,9 +19,31 @@ pub struct Reply {
 }
 
 impl Reply {
+    /// Lines alone.
+    pub fn printed(alloc: Global, lines: Text) -> Reply
+        ensures { result ≡ said.printed lines }
+    {
+        Reply {
+            rejected: false,
+            lines,
+            outputs: Listed::new(alloc),
+        }
+    }
+
+    /// Lines that say why a file that was judged is not accepted.
+    pub fn rejection(alloc: Global, lines: Text) -> Reply
+        ensures { result ≡ said.rejection lines }
+    {
+        Reply {
+            rejected: true,
+            lines,
+            outputs: Listed::new(alloc),
+        }
+    }
+
     /// A file under a name, and then lines.
     pub fn filed(alloc: Global, name: &str, bytes: Listed<u8>, lines: Text) -> Result<Reply, Memory>
-        ensures { IfOk result (λ reply. reply ≡ filed name.now bytes lines) }
+        ensures { IfOk result (λ reply. reply ≡ said.filed name.now bytes lines) }
     {
         let name = Text::from_str(alloc, name)?;
         let mut outputs = Listed::new(alloc);

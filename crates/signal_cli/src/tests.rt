@@ -1,6 +1,7 @@
 //! Whole runs over files and an output in memory: what they print, and what comes of calls that fail.
 
 mod calls;
+mod certificates;
 mod examples;
 mod networks;
 mod plan_texts;

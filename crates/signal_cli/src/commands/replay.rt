@@ -84,11 +84,7 @@ fn reply_under(alloc: Global, net: &Net, plan: &Plan) -> Result<Reply, Fault>
     ensures { Gives result (Ok (printed (replay_lines net.now plan.now.words))) }
 {
     let lines = lines_of(alloc, net, plan)?;
-    Ok(Reply {
-        rejected: false,
-        lines,
-        outputs: Listed::new(alloc),
-    })
+    Ok(Reply::printed(alloc, lines))
 }
 
 /// The delay of a network under a plan and what is left in it, as two lines.
