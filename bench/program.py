@@ -34,7 +34,7 @@ def piece(first, until, rate, steps):
 
 
 def crossing(steps):
-    """The crossing over its first steps, of which there are more than 20: traffic comes in before step 40."""
+    """The crossing over its first steps: traffic comes in before step 40."""
     def turns(straight, side):
         return 'turns = [{ link = "%s", parcel = 3 }, { link = "%s", parcel = 1 }]' % (straight, side)
 
@@ -42,7 +42,7 @@ def crossing(steps):
             ('east', turns('w_out', 'n_out'), 'ew', [(0, 40, 3)]), ('west', turns('e_out', 's_out'), 'ew', [(0, 20, 4), (20, 40, 2)])]
     lines = ['format = 1', 'steps = %d' % steps]
     for name, way, green, pieces in arms:
-        demand = ', '.join(piece(*each, steps) for each in pieces)
+        demand = ', '.join(piece(*each, steps) for each in pieces if each[0] < steps)
         lines += ['[[link]]', 'name = "%s"' % name, *ARM, way, 'signal = "j"', 'greens = ["%s"]' % green, 'demand = [%s]' % demand]
     for name in WAYS_OUT:
         lines += ['[[link]]', 'name = "%s"' % name, 'cells = 2', *ARM[1:]]
