@@ -4,3 +4,5 @@ pub mod Spreading
 pub mod Steps
 pub mod Adding
 pub mod Noting
+pub mod Keeping
+pub mod Differing

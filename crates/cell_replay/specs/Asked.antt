@@ -1,6 +1,6 @@
 -- What a step asks of cells and of what they hold.
-use Rattle.std.specs.Prelude.{◌≡◌, ℕ, ◌-◌, ◌<◌, ◌≤◌, List, length, All, slice_index}
-use Rattle.ct_base.specs.Access.{cell_of, parcel, targets}
+use Rattle.std.specs.Prelude.{◌≡◌, ℕ, ◌<◌, ◌≤◌, List, length, All, slice_index}
+use Rattle.ct_base.specs.Access.{cell_of, targets}
 use Rattle.ct_base.specs.Validity.{IsBetween, IsRoad, IsSplit}
 use Rattle.ct_base.specs.declared.cell.Cell.{Cell}
 use Rattle.ct_base.specs.declared.cell.Kind.TheVariants.{Road}

@@ -1,4 +1,5 @@
 pub mod Standing
 pub mod Trace
 pub mod Asked
+pub mod Keeps
 pub mod inner

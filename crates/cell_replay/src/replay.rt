@@ -131,7 +131,7 @@ fn total(units: &[u32]) -> u64
 }
 
 /// What each cell holds at step 0.
-fn initial_units(alloc: Global, cells: &[Cell]) -> Result<Vec<u32>, Memory>
+pub(crate) fn initial_units(alloc: Global, cells: &[Cell]) -> Result<Vec<u32>, Memory>
     ensures value { IfOk result (λ units. units.items ≡ initial_units cells.now) }
     ensures length { IfOk result (λ units. vec_len units ≡ length cells.now) }
 {

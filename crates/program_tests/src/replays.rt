@@ -5,7 +5,7 @@ ghost use Rattle.ct_base.specs.Validity.{IsValid};
 ghost use Rattle.traffic_model.specs.Runs.{HasWords};
 
 use crate::networks::{bottleneck, crossing, diverge, green, no_plan, one_link};
-use cell_replay::{Line, Replay, delay, prefix_delay, totals, trace};
+use cell_replay::{KeptReplay, Line, Replay, delay, first_change, prefix_delay, totals, trace};
 use ct_base::{Memory, Net, Plan, valid};
 use std::alloc::Global;
 use std::process::Abort;
@@ -144,6 +144,24 @@ fn a_diverge_sends_whole_parcels(rt: HostRuntime) -> Result<(), Fail> {
     ];
     let left = [replay.outflow(0), replay.outflow(1), replay.outflow(2)];
     assert_eq!(rt; (replay.now(), held, left), (1, [2, 2, 1], [3, 0, 0]));
+    Ok(())
+}
+
+/// In the second plan the unit of the second approach waits in the last step too.
+#[test]
+fn a_kept_replay_goes_on_at_the_last_step(rt: HostRuntime) -> Result<(), Fail> {
+    let alloc = rt.alloc();
+    let net = crossing(alloc)?;
+    let at_last = green(alloc, [0, 0, 1])?;
+    let never = green(alloc, [0, 0, 0])?;
+    assert!(rt; valid(&net));
+    assert!(rt; has_words(&net, &at_last) && has_words(&net, &never));
+    let mut kept = KeptReplay::start(alloc, &net, &at_last)?;
+    assert_eq!(rt; kept.delay(), 2);
+    let first = first_change(&net, &at_last, &never);
+    kept.replay(&net, &never, first);
+    assert_eq!(rt; (first, kept.delay()), (2, 3));
+    assert_eq!(rt; delay(alloc, &net, &never)?, 3);
     Ok(())
 }
 

@@ -15,6 +15,6 @@ rule_rows-requires-clause-plan c =
 pub finish-requires : goal.finish-requires
 finish-requires c =
     let net = c.args.net.now in
-    let kept : length c.rule_rows.new.into.columns ≡ length c.plan_cols.new.into.columns = ap (λ (b : Begun). length b.columns) c.in_ok-rule_rows.ensures in
+    let kept : length c.rule_rows.new.into.columns ≡ length c.plan_cols.new.into.columns = ap (λ (b : Begun). length b.columns) c.in_ok-rule_rows.ensures.ok in
     let added : length c.plan_cols.new.into.columns ≡ length (map (col net) (plan_columns net)) = ap (λ (b : Begun). length b.columns) c.in_ok-count.ensures.columns in
     omega (arith, kept, added, c.in_ok-count.ensures.count, length-map (plan_columns net) (col net), length-plan_columns net)
