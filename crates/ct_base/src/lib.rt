@@ -5,8 +5,6 @@ mod cell;
 mod net;
 mod plan;
 mod signal;
-#[cfg(test)]
-mod tests;
 mod validity;
 
 pub use cell::{Cell, Gate, Kind, Out, Turns};

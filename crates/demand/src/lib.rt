@@ -5,8 +5,6 @@ mod fault;
 mod judge;
 mod piece;
 mod sums;
-#[cfg(test)]
-mod tests;
 
 pub use fault::DemandFault;
 pub use piece::Piece;

@@ -6,8 +6,6 @@ mod duplicate;
 mod list;
 mod memory;
 mod stack;
-#[cfg(test)]
-mod tests;
 mod text;
 
 pub use duplicate::Duplicate;

@@ -42,6 +42,20 @@ impl<R> HostShelf<R> {
             write_faults: 0,
         }
     }
+
+    /// How many reads have failed.
+    pub fn read_faults(&self) -> u64
+        ensures { result ≡ self.now.read_faults }
+    {
+        self.read_faults
+    }
+
+    /// How many calls of `create` and `append` have failed.
+    pub fn write_faults(&self) -> u64
+        ensures { result ≡ self.now.write_faults }
+    {
+        self.write_faults
+    }
 }
 
 impl<W> HostSink<W> {
@@ -51,6 +65,13 @@ impl<W> HostSink<W> {
         ensures faults { result.faults ≡ 0 }
     {
         HostSink { writer, faults: 0 }
+    }
+
+    /// How many calls have failed.
+    pub fn faults(&self) -> u64
+        ensures { result ≡ self.now.faults }
+    {
+        self.faults
     }
 }
 
@@ -137,66 +158,5 @@ fn write_some<W: Write>(writer: &mut W, bytes: &[u8]) -> io::Result<usize>
     match writer.write(bytes) {
         Ok(0) if !bytes.is_empty() => Err(io::Error::from(io::ErrorKind::WriteZero)),
         written => written,
-    }
-}
-
-#[cfg(test)]
-mod tests {
-    use super::*;
-    use crate::whole_file::{ReadAll, read_all};
-    use crate::whole_text::put_all;
-    use crate::whole_write::write_all;
-    use std::fs;
-    use std::test::Fail;
-
-    #[test]
-    fn a_file_is_made_written_and_read_back(rt: HostRuntime) -> Result<(), Fail> {
-        let name = "shelf_io_host_shelf.tmp";
-        let alloc = rt.alloc();
-        let mut shelf = HostShelf::new(&rt);
-        let _ = fs::remove_file(&rt, name);
-        let missing = read_all(alloc, &mut shelf, name, 100);
-        assert_eq!(rt; missing.err(), Some(ReadAll::Fault));
-        assert_eq!(rt; shelf.append(name, b"delay 0\n"), Err(Failed));
-        for text in ["delay 0\nleft 0\nleft 0\n", "delay 0\n"] {
-            write_all(&mut shelf, name, text.as_bytes())?;
-        }
-        assert_eq!(rt; shelf.append(name, b"left 0\n")?, 7);
-        let mut into = [0; 4];
-        for (at, piece) in [(0, "dela"), (13, "0\n"), (15, ""), (16, "")] {
-            let count = shelf.read(name, at, &mut into)?;
-            assert_eq!(rt; &into[..count], piece.as_bytes(), "at {at}");
-        }
-        let whole = read_all(alloc, &mut shelf, name, 15)?;
-        assert_eq!(rt; whole.as_slice(), b"delay 0\nleft 0\n".as_slice());
-        let long = read_all(alloc, &mut shelf, name, 14);
-        assert_eq!(rt; long.err(), Some(ReadAll::TooLong));
-        assert_eq!(rt; (shelf.read_faults, shelf.write_faults), (1, 1));
-        let folder = read_all(alloc, &mut shelf, ".", 100);
-        assert_eq!(rt; folder.err(), Some(ReadAll::Fault));
-        let placeless = write_all(&mut shelf, "shelf_io_no_folder/file", b"0");
-        assert_eq!(rt; placeless, Err(Failed));
-        assert_eq!(rt; (shelf.read_faults, shelf.write_faults), (2, 2));
-        fs::remove_file(&rt, name)?;
-        Ok(())
-    }
-
-    #[test]
-    fn bytes_go_out(rt: HostRuntime) -> Result<(), Fail> {
-        let mut sink = HostSink::new(rt.stdout());
-        assert_eq!(rt; sink.take(b"delay 0\n")?, 8);
-        put_all(&mut sink, b"left 0\n")?;
-        assert_eq!(rt; sink.faults, 0);
-        Ok(())
-    }
-
-    #[test]
-    fn a_full_output_is_a_failure(rt: HostRuntime) -> Result<(), Fail> {
-        let mut room = [0; 10];
-        let mut sink = HostSink::new(room.as_mut_slice());
-        assert_eq!(rt; put_all(&mut sink, b"delay 0\nleft 0\n"), Err(Failed));
-        assert_eq!(rt; sink.faults, 1);
-        assert_eq!(rt; room.as_slice(), b"delay 0\nle".as_slice());
-        Ok(())
     }
 }

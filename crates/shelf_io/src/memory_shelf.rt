@@ -64,6 +64,20 @@ impl MemoryShelf {
     {
         self.files.get(name)
     }
+
+    /// How many reads that were to fail have failed.
+    pub fn read_faults(&self) -> u64
+        ensures { result ≡ self.now.read_faults }
+    {
+        self.read_faults
+    }
+
+    /// How many calls of `create` and `append` have failed.
+    pub fn write_faults(&self) -> u64
+        ensures { result ≡ self.now.write_faults }
+    {
+        self.write_faults
+    }
 }
 
 impl Shelf for MemoryShelf {
@@ -124,124 +138,4 @@ fn copy_piece(bytes: &[u8], at: u64, most: usize, into: &mut [u8]) -> usize
     let count = most.min(into.len().min(rest.len()));
     into[..count].copy_from_slice(&rest[..count]);
     count
-}
-
-#[cfg(test)]
-mod tests {
-    use super::*;
-    use crate::file_map::File;
-    use crate::whole_file::{ReadAll, read_all};
-    use crate::whole_write::write_all;
-    use listed::{Duplicate, Listed, Memory, Text};
-    use std::alloc::Global;
-    use std::process::Abort;
-    use std::test::Fail;
-
-    const TEXT: &str = "delay 0\nleft 0\n";
-
-    /// The text in a file that is named `report`.
-    fn report(alloc: Global) -> Result<FileList, Memory> {
-        let mut files = Listed::new(alloc);
-        files.push(File {
-            name: Text::from_str(alloc, "report")?,
-            bytes: Listed::of(Vec::from_slice(alloc, TEXT.as_bytes())?),
-        })?;
-        Ok(files)
-    }
-
-    /// Adds bytes to a file that is there.
-    fn append(
-        rt: &impl Abort,
-        shelf: &mut MemoryShelf,
-        name: &str,
-        bytes: &[u8],
-    ) -> Result<usize, Failed> {
-        assert!(rt; shelf.file(name).is_some());
-        shelf.append(name, bytes)
-    }
-
-    #[test]
-    fn pieces_of_any_length_give_the_whole_file(rt: HostRuntime) -> Result<(), Fail> {
-        let alloc = rt.alloc();
-        for most in [1, 2, 7, 65_536] {
-            assert!(rt; most >= 1);
-            let mut shelf = MemoryShelf::new(report(alloc)?, Listed::new(alloc), most);
-            let whole = read_all(alloc, &mut shelf, "report", 15)?;
-            assert_eq!(rt; whole.as_slice(), TEXT.as_bytes(), "{most} bytes per call");
-            let long = read_all(alloc, &mut shelf, "report", 14);
-            assert_eq!(rt; long.err(), Some(ReadAll::TooLong), "{most} bytes per call");
-            let missing = read_all(alloc, &mut shelf, "repor", 15);
-            assert_eq!(rt;
-                missing.err(),
-                Some(ReadAll::Fault),
-                "{most} bytes per call"
-            );
-            assert_eq!(rt; (shelf.read_faults, shelf.write_faults), (0, 0));
-        }
-        Ok(())
-    }
-
-    #[test]
-    fn files_are_copied(rt: HostRuntime) -> Result<(), Fail> {
-        let files = report(rt.alloc())?;
-        let made = files.copy()?;
-        assert_eq!(rt; made.len(), 1);
-        for file in made.as_slice() {
-            assert_eq!(rt; file.name.as_str(), "report");
-            assert_eq!(rt; file.bytes.as_slice(), TEXT.as_bytes());
-        }
-        Ok(())
-    }
-
-    #[test]
-    fn a_file_is_written_whole_or_up_to_the_call_that_fails(rt: HostRuntime) -> Result<(), Fail> {
-        let alloc = rt.alloc();
-        let line = "left 0\n";
-        for (name, failing, text, outcome, holds) in [
-            ("new", 9, TEXT, Ok(()), Some(TEXT)),
-            ("report", 9, line, Ok(()), Some(line)),
-            ("report", 9, "", Ok(()), Some("")),
-            ("new", 1, line, Err(Failed), None),
-            ("report", 1, line, Err(Failed), Some(TEXT)),
-            ("report", 3, line, Err(Failed), Some("left")),
-        ] {
-            let mut shelf = MemoryShelf::new(
-                report(alloc)?,
-                Listed::of(vec![in alloc; failing]?),
-                4,
-            );
-            let written = write_all(&mut shelf, name, text.as_bytes());
-            assert_eq!(rt; written, outcome, "{name}: call {failing} fails");
-            let bytes = holds.map(|text| text.as_bytes());
-            assert_eq!(rt; shelf.file(name), bytes, "{name}: call {failing} fails");
-            let faults = u64::from(written.is_err());
-            assert_eq!(rt; (shelf.read_faults, shelf.write_faults), (0, faults));
-        }
-        Ok(())
-    }
-
-    #[test]
-    fn listed_calls_fail_and_no_others(rt: HostRuntime) -> Result<(), Fail> {
-        let alloc = rt.alloc();
-        let failing = Listed::of(vec![in alloc; 2, 4, 7]?);
-        let mut shelf = MemoryShelf::new(report(alloc)?, failing, 6);
-        assert_eq!(rt; shelf.create("new"), Ok(()), "call 1");
-        assert_eq!(rt; shelf.create("report"), Err(Failed), "call 2");
-        assert_eq!(rt;
-            append(&rt, &mut shelf, "new", b"left 0\n"),
-            Ok(6),
-            "call 3"
-        );
-        assert_eq!(rt; append(&rt, &mut shelf, "new", b"0"), Err(Failed), "call 4");
-        assert_eq!(rt; append(&rt, &mut shelf, "new", b"0"), Ok(1), "call 5");
-        let whole = read_all(alloc, &mut shelf, "report", 15);
-        assert_eq!(rt; whole.err(), Some(ReadAll::Fault), "call 7");
-        assert_eq!(rt; shelf.file("new"), Some(b"left 00".as_slice()));
-        assert_eq!(rt; shelf.file("report"), Some(TEXT.as_bytes()));
-        assert_eq!(rt; shelf.create("report"), Ok(()), "call 8");
-        assert_eq!(rt; shelf.file("report"), Some(b"".as_slice()));
-        assert_eq!(rt; shelf.file("old"), None);
-        assert_eq!(rt; (shelf.read_faults, shelf.write_faults), (1, 2));
-        Ok(())
-    }
 }

@@ -60,6 +60,13 @@ impl MemorySink {
     {
         self.taken.as_slice()
     }
+
+    /// How many calls have failed.
+    pub fn faults(&self) -> u64
+        ensures { result ≡ self.now.faults }
+    {
+        self.faults
+    }
 }
 
 impl Sink for MemorySink {
@@ -79,35 +86,5 @@ impl Sink for MemorySink {
         let outcome = self.taken.extend_from_slice(&bytes[..count]);
         counted(outcome, &mut self.faults)?;
         Ok(count)
-    }
-}
-
-#[cfg(test)]
-mod tests {
-    use super::*;
-    use crate::whole_text::put_all;
-    use listed::Listed;
-    use std::test::Fail;
-
-    #[test]
-    fn a_front_is_taken_up_to_the_call_that_fails(rt: HostRuntime) -> Result<(), Fail> {
-        let alloc = rt.alloc();
-        let text = "delay 0\nleft 0\n";
-        for (failing, put, taken) in [
-            (1, Err(Failed), ""),
-            (2, Err(Failed), "dela"),
-            (3, Err(Failed), "delay 0\n"),
-            (5, Ok(()), text),
-        ] {
-            let mut sink = MemorySink::new(alloc, Listed::of(vec![in alloc; failing]?), 4);
-            assert_eq!(rt;
-                put_all(&mut sink, text.as_bytes()),
-                put,
-                "call {failing} fails"
-            );
-            assert_eq!(rt; sink.bytes(), taken.as_bytes(), "call {failing} fails");
-            assert_eq!(rt; sink.faults, u64::from(put.is_err()));
-        }
-        Ok(())
     }
 }

@@ -101,33 +101,3 @@ fn note(calls: &mut Vec<Call>, call: Call)
 {
     let _ = calls.push(call);
 }
-
-#[cfg(test)]
-mod tests {
-    use super::*;
-    use crate::memory_shelf::MemoryShelf;
-    use crate::whole_file::read_all;
-    use crate::whole_write::write_all;
-    use listed::Listed;
-    use std::test::Fail;
-
-    #[test]
-    fn each_call_is_noted_in_its_turn(rt: HostRuntime) -> Result<(), Fail> {
-        let alloc = rt.alloc();
-        let failing = Listed::of(vec![in alloc; 5]?);
-        let mut watched = Watched::new(alloc, MemoryShelf::new(Listed::new(alloc), failing, 4));
-        write_all(&mut watched, "new", b"left 0\n")?;
-        assert!(rt; read_all(alloc, &mut watched, "new", 7).is_err());
-        let new = || String::from_str(alloc, "new");
-        let calls = [
-            Call::Create(new()?),
-            Call::Append(new()?, 7),
-            Call::Append(new()?, 3),
-            Call::Read(new()?, 0, 65_536),
-            Call::Read(new()?, 4, 65_536),
-        ];
-        assert_eq!(rt; watched.calls(), calls.as_slice());
-        assert_eq!(rt; watched.shelf().file("new"), Some(b"left 0\n".as_slice()));
-        Ok(())
-    }
-}

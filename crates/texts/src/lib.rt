@@ -5,8 +5,6 @@ pub mod laws;
 mod line;
 mod name;
 mod number;
-#[cfg(test)]
-mod tests;
 
 pub use line::{cut, take_line, take_word};
 pub use name::{Name, is_name};

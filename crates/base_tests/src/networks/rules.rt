@@ -2,7 +2,7 @@
 
 use super::change::{Change, changed};
 use super::given::{GivenCell, GivenOut, GivenSignal, net_of};
-use crate::{Kind, Memory, valid};
+use ct_base::{Kind, Memory, valid};
 use std::alloc::Global;
 use std::process::Abort;
 
@@ -36,11 +36,60 @@ const ROAD: GivenCell<'static> = GivenCell {
     ..EXIT
 };
 
+/// A diverge that holds five units.
+const DIVERGE: GivenCell<'static> = GivenCell {
+    store: 10,
+    initial: 5,
+    ..EXIT
+};
+
+/// A queue before cell 6.
+const LATER_QUEUE: GivenCell<'static> = GivenCell {
+    out: GivenOut::To(6),
+    ..QUEUE
+};
+
+/// A cell before cell 2 that is full.
+const APPROACH: GivenCell<'static> = GivenCell {
+    cap: 1,
+    store: 2,
+    initial: 1,
+    ..ROAD
+};
+
+/// The exit of one unit a step.
+const NARROW_EXIT: GivenCell<'static> = GivenCell {
+    cap: 1,
+    store: 2,
+    ..EXIT
+};
+
+/// What is tried, what is changed in a cell, and whether it may be.
+type Case = (&'static str, Change, bool);
+
 /// A signal that lets each of two phases follow the other.
 const SIGNAL: GivenSignal<'static> = GivenSignal {
     start: 0,
     phases: &[(1, 2, 0, 2), (1, 2, 0, 1)],
 };
+
+/// Whether the network of these cells and signals is valid.
+fn judged(
+    alloc: Global,
+    steps: u32,
+    cells: &[GivenCell],
+    signals: &[GivenSignal],
+) -> Result<bool, Memory> {
+    let net = net_of(alloc, steps, cells, signals)?;
+    Ok(valid(&net))
+}
+
+/// Whether a network of so many exits and signals is valid.
+fn judged_counts(alloc: Global, steps: u32, cells: usize, signals: usize) -> Result<bool, Memory> {
+    let cells = vec![in alloc; EXIT; cells]?;
+    let signals = vec![in alloc; SIGNAL; signals]?;
+    judged(alloc, steps, &cells, &signals)
+}
 
 /// Steps, cells and signals, and whether there may be so many.
 const COUNTS: &[(u32, usize, usize, bool)] = &[
@@ -55,16 +104,14 @@ const COUNTS: &[(u32, usize, usize, bool)] = &[
 
 pub fn try_counts(rt: &impl Abort, alloc: Global) -> Result<(), Memory> {
     for (steps, cells, signals, expected) in COUNTS {
-        let cells = vec![in alloc; EXIT; *cells]?;
-        let signals = vec![in alloc; SIGNAL; *signals]?;
-        let net = net_of(alloc, *steps, &cells, &signals)?;
-        assert_eq!(rt; valid(&net), *expected, "{steps} steps");
+        let valid = judged_counts(alloc, *steps, *cells, *signals)?;
+        assert_eq!(rt; valid, *expected, "{steps} steps");
     }
     Ok(())
 }
 
 /// What is changed in the road cell between a queue and an exit, and whether it may be.
-const ROADS: &[(&str, Change, bool)] = &[
+const ROADS: &[Case] = &[
     ("nothing", Change::Nothing, true),
     ("no capacity", Change::Cap(0), false),
     ("a capacity of 1000", Change::Cap(1000), true),
@@ -86,20 +133,8 @@ const ROADS: &[(&str, Change, bool)] = &[
     ("demand at a road cell", Change::Demand(&[0, 0, 0]), false),
 ];
 
-pub fn try_roads(rt: &impl Abort, alloc: Global) -> Result<(), Memory> {
-    for (what, change, expected) in ROADS {
-        let cells = [QUEUE, changed(ROAD, *change), EXIT];
-        assert_eq!(rt;
-            valid(&net_of(alloc, 3, &cells, &[SIGNAL])?),
-            *expected,
-            "{what}"
-        );
-    }
-    Ok(())
-}
-
 /// What is changed in a queue before two road cells, and whether it may be.
-const QUEUES: &[(&str, Change, bool)] = &[
+const QUEUES: &[Case] = &[
     ("nothing", Change::Nothing, true),
     ("no capacity", Change::Cap(0), false),
     ("storage", Change::Store(1), false),
@@ -120,48 +155,93 @@ const QUEUES: &[(&str, Change, bool)] = &[
     ("a demand of 1001", Change::Demand(&[0, 0, 1001]), false),
 ];
 
-pub fn try_queues(rt: &impl Abort, alloc: Global) -> Result<(), Memory> {
-    for (what, change, expected) in QUEUES {
-        let cells = [changed(QUEUE, *change), ROAD, EXIT];
-        assert_eq!(rt;
-            valid(&net_of(alloc, 3, &cells, &[SIGNAL])?),
-            *expected,
-            "{what}"
-        );
+/// The branches of a diverge before six exits and a queue, and whether it may have them.
+const DIVERGES: &[Case] = &[
+    ("2 branches", Change::Turns(&[(1, 2), (2, 1)]), true),
+    (
+        "4 branches",
+        Change::Turns(&[(1, 100), (2, 1), (3, 1), (4, 1)]),
+        true,
+    ),
+    ("no branch", Change::Turns(&[]), false),
+    ("1 branch", Change::Turns(&[(1, 2)]), false),
+    (
+        "5 branches",
+        Change::Turns(&[(1, 1), (2, 1), (3, 1), (4, 1), (5, 1)]),
+        false,
+    ),
+    ("equal branches", Change::Turns(&[(1, 2), (1, 1)]), false),
+    (
+        "the first and last equal",
+        Change::Turns(&[(1, 1), (2, 1), (1, 1)]),
+        false,
+    ),
+    (
+        "a branch with no unit",
+        Change::Turns(&[(1, 2), (2, 0)]),
+        false,
+    ),
+    (
+        "a branch with 101 units",
+        Change::Turns(&[(1, 101), (2, 1)]),
+        false,
+    ),
+    (
+        "a branch into itself",
+        Change::Turns(&[(1, 2), (0, 1)]),
+        false,
+    ),
+    (
+        "a branch into a queue",
+        Change::Turns(&[(1, 2), (7, 1)]),
+        false,
+    ),
+    (
+        "a branch into no cell",
+        Change::Turns(&[(8, 2), (2, 1)]),
+        false,
+    ),
+    (
+        "a branch where the queue leads",
+        Change::Turns(&[(1, 2), (6, 1)]),
+        false,
+    ),
+];
+
+pub fn try_cells(rt: &impl Abort, alloc: Global) -> Result<(), Memory> {
+    try_changes(rt, alloc, &[QUEUE], ROAD, &[EXIT], ROADS)?;
+    try_changes(rt, alloc, &[], QUEUE, &[ROAD, EXIT], QUEUES)?;
+    let behind = [EXIT, EXIT, EXIT, EXIT, EXIT, EXIT, LATER_QUEUE];
+    try_changes(rt, alloc, &[], DIVERGE, &behind, DIVERGES)
+}
+
+/// Tries each change of a cell between others.
+fn try_changes(
+    rt: &impl Abort,
+    alloc: Global,
+    before: &[GivenCell<'static>],
+    cell: GivenCell<'static>,
+    behind: &[GivenCell<'static>],
+    cases: &[Case],
+) -> Result<(), Memory> {
+    for (what, change, expected) in cases {
+        let valid = judged_between(alloc, before, changed(cell, *change), behind)?;
+        assert_eq!(rt; valid, *expected, "{what}");
     }
     Ok(())
 }
 
-/// The branches of a diverge before six exits and a queue, and whether it may have them.
-const DIVERGES: &[(&str, &[(u32, u32)], bool)] = &[
-    ("2 branches", &[(1, 2), (2, 1)], true),
-    ("4 branches", &[(1, 100), (2, 1), (3, 1), (4, 1)], true),
-    ("no branch", &[], false),
-    ("1 branch", &[(1, 2)], false),
-    (
-        "5 branches",
-        &[(1, 1), (2, 1), (3, 1), (4, 1), (5, 1)],
-        false,
-    ),
-    ("equal branches", &[(1, 2), (1, 1)], false),
-    ("the first and last equal", &[(1, 1), (2, 1), (1, 1)], false),
-    ("a branch with no unit", &[(1, 2), (2, 0)], false),
-    ("a branch with 101 units", &[(1, 101), (2, 1)], false),
-    ("a branch into itself", &[(1, 2), (0, 1)], false),
-    ("a branch into a queue", &[(1, 2), (7, 1)], false),
-    ("a branch into no cell", &[(8, 2), (2, 1)], false),
-    ("a branch where the queue leads", &[(1, 2), (6, 1)], false),
-];
-
-pub fn try_diverges(rt: &impl Abort, alloc: Global) -> Result<(), Memory> {
-    let queue = changed(QUEUE, Change::To(6));
-    let holds_five = changed(changed(EXIT, Change::Store(10)), Change::Initial(5));
-    for (what, turns, expected) in DIVERGES {
-        let diverge = changed(holds_five, Change::Turns(turns));
-        let cells = [diverge, EXIT, EXIT, EXIT, EXIT, EXIT, EXIT, queue];
-        assert_eq!(rt; valid(&net_of(alloc, 3, &cells, &[])?), *expected, "{what}");
-    }
-    Ok(())
+/// Whether the network of a cell between others is valid.
+fn judged_between(
+    alloc: Global,
+    before: &[GivenCell<'static>],
+    cell: GivenCell<'static>,
+    behind: &[GivenCell<'static>],
+) -> Result<bool, Memory> {
+    let mut cells = Vec::from_slice(alloc, before)?;
+    cells.push(cell)?;
+    cells.extend_from_slice(behind)?;
+    judged(alloc, 3, &cells, &[SIGNAL])
 }
 
 /// The gates of two approaches that lead into one exit, and whether they may have them.
@@ -179,22 +259,18 @@ const MERGES: &[(&str, Option<(u32, u8)>, Option<(u32, u8)>, bool)] = &[
 ];
 
 pub fn try_merges(rt: &impl Abort, alloc: Global) -> Result<(), Memory> {
-    let approach = |gate| GivenCell {
-        cap: 1,
-        store: 2,
-        initial: 1,
-        gate,
-        ..ROAD
-    };
-    let exit = changed(changed(EXIT, Change::Cap(1)), Change::Store(2));
     for (what, major, minor, expected) in MERGES {
-        let cells = [approach(*major), approach(*minor), exit];
-        let signals = [SIGNAL, SIGNAL];
-        assert_eq!(rt;
-            valid(&net_of(alloc, 3, &cells, &signals)?),
-            *expected,
-            "{what}"
-        );
+        let first = GivenCell {
+            gate: *major,
+            ..APPROACH
+        };
+        let second = GivenCell {
+            gate: *minor,
+            ..APPROACH
+        };
+        let cells = [first, second, NARROW_EXIT];
+        let valid = judged(alloc, 3, &cells, &[SIGNAL, SIGNAL])?;
+        assert_eq!(rt; valid, *expected, "{what}");
     }
     Ok(())
 }
@@ -265,12 +341,8 @@ pub fn try_signals(rt: &impl Abort, alloc: Global) -> Result<(), Memory> {
             start: *start,
             phases,
         };
-        let signals = [SIGNAL, signal];
-        assert_eq!(rt;
-            valid(&net_of(alloc, 3, &[EXIT], &signals)?),
-            *expected,
-            "{what}"
-        );
+        let valid = judged(alloc, 3, &[EXIT], &[SIGNAL, signal])?;
+        assert_eq!(rt; valid, *expected, "{what}");
     }
     Ok(())
 }

@@ -1,6 +1,6 @@
 //! Networks written down in one piece, for the tests.
 
-use crate::{Cell, Duplicate, Gate, Kind, Listed, Memory, Net, Out, Phase, Signal};
+use ct_base::{Cell, Duplicate, Gate, Kind, Listed, Memory, Net, Out, Phase, Signal};
 use std::alloc::Global;
 
 /// Where the units go that leave a cell, as `Out`.

@@ -1,6 +1,6 @@
 //! Demand that is spread over steps, and the first fault of each kind.
 
-use crate::{DemandFault, Piece, spread};
+use demand::{DemandFault, Piece, spread};
 use std::test::Fail;
 
 /// Two units at steps 0 and 1.

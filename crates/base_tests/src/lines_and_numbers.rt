@@ -3,9 +3,9 @@
 ghost use Rattle.std.specs.Prelude.{◌≡◌, IfOk, string_bytes};
 ghost use Rattle.std.specs.Fmt.{signed_decimal};
 
-use crate::{is_name, natural, price, take_line, take_word, whole};
 use std::alloc::{AllocError, Global};
 use std::test::Fail;
+use texts::{is_name, natural, price, take_line, take_word, whole};
 
 /// Texts, the most digits, and the number that they spell.
 const NUMBERS: &[(&str, usize, Option<u64>)] = &[
