@@ -1,4 +1,5 @@
 pub mod RowLaws
+pub mod FrontLaws
 pub mod BitLaws
 pub mod Inserting
 pub mod LastingLaws

@@ -148,11 +148,13 @@ row_room net program row fits = omega (arith, fits.few)
 around : {X : Type 0} (xs : List X) (k : ℕ) (d : X) → k < length xs → xs ≡ take k xs ++ get_or xs k d ∷ drop (k + 1) xs
 around {X} xs k d inside = rw add-one (sym (take-append-drop k xs) ∙ ap (λ (rest : List X). take k xs ++ rest) (drop-cons xs k d inside))
 
+-- the rows around that of one of them
+pub mapped_around : {X : Type 0} (f : X → SumRow Column) (xs : List X) (k : ℕ) (d : X) → k < length xs → map f xs ≡ map f (take k xs) ++ f (get_or xs k d) ∷ map f (drop (k + 1) xs)
+mapped_around f xs k d inside = ap (map f) (around xs k d inside) ∙ map-append f (take k xs) (get_or xs k d ∷ drop (k + 1) xs)
+
 -- the row of one element, behind those of the elements before it
 pub fits_mapped : {X : Type 0} (net : Net) (a b : Begun) (f : X → SumRow Column) (xs : List X) (k : ℕ) (d : X) → Fits net a (map f xs) → k < length xs → Adds net a b (map f (take k xs)) → Fits net b (f (get_or xs k d) ∷ [])
 fits_mapped net a b f xs k d fits inside added =
-    let split : map f xs ≡ map f (take k xs) ++ f (get_or xs k d) ∷ map f (drop (k + 1) xs) =
-    ap (map f) (around xs k d inside) ∙ map-append f (take k xs) (get_or xs k d ∷ drop (k + 1) xs) in
     let behind : Fits net b (f (get_or xs k d) ∷ map f (drop (k + 1) xs)) =
-    fits_second net a b (map f (take k xs)) (f (get_or xs k d) ∷ map f (drop (k + 1) xs)) (subst (λ (rows : List (SumRow Column)). Fits net a rows) split fits) added in
+    fits_second net a b (map f (take k xs)) (f (get_or xs k d) ∷ map f (drop (k + 1) xs)) (subst (λ (rows : List (SumRow Column)). Fits net a rows) (mapped_around f xs k d inside) fits) added in
     record { few = omega (arith, behind.few); there = (behind.there.0, tt) }

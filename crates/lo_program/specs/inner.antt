@@ -1,5 +1,6 @@
 pub mod Adding
 pub mod Bits
+pub mod Kinds
 pub mod Inserting
 pub mod Counts
 pub mod Flows

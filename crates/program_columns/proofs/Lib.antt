@@ -1,3 +1,4 @@
 pub mod BuildingLaws
+pub mod FrontLaws
 pub mod CapLaws
 pub mod CellColumns

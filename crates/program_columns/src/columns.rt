@@ -1,6 +1,6 @@
 //! The columns of the program of a network, in their order.
 
-ghost use Rattle.std.specs.Prelude.{◌≡◌, ◌+◌, ◌≤◌, ◌<◌, [], ◌∷◌, ◌++◌, length, pos, OnOk};
+ghost use Rattle.std.specs.Prelude.{◌≡◌, ◌+◌, ◌≤◌, ◌<◌, [], ◌∷◌, ◌++◌, length, pos, OnErr, OnOk};
 ghost use Rattle.listed.specs.Below.{join_below, table_of};
 ghost use Rattle.ct_base.specs.Validity.{IsValid};
 ghost use Rattle.program_columns.specs.Columns.{arrived_before, with_columns};
@@ -72,13 +72,14 @@ fn add_columns_of_cells(
     Ok(())
 }
 
-/// Adds a column, by its bounds and what one unit of it costs.
+/// Adds a column, by its bounds and what one unit of it costs. Where memory is wanting the builder stays as it was.
 fn add(builder: &mut Builder, low: u32, high: u32, cost: i64) -> Result<(), Memory>
     requires bounds { low ≤ high }
     requires small { high ≤ MAX_NUMBER }
     requires cost { IsSmall cost }
     requires room { length builder.old.columns < MAX_COLUMNS }
-    ensures { OnOk result (builder.new ≡ record builder.old { columns = builder.old.columns ++ record { low = pos low; high = pos high; cost = cost } ∷ [] }) }
+    ensures ok { OnOk result (builder.new ≡ record builder.old { columns = builder.old.columns ++ record { low = pos low; high = pos high; cost = cost } ∷ [] }) }
+    ensures err { OnErr result (builder.new ≡ builder.old) }
 {
     builder.col(i64::from(low), i64::from(high), cost)?;
     Ok(())

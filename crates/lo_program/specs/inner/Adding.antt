@@ -1,5 +1,5 @@
 -- Rows that are added to a program that is being built, as columns and not yet as numbers.
-use Rattle.std.specs.Prelude.{◌≡◌, ℕ, ℤ, ◌+◌, ◌<◌, ◌≤◌, List, ◌++◌, length, map}
+use Rattle.std.specs.Prelude.{◌≡◌, ℕ, ℤ, ◌+◌, ◌<◌, ◌≤◌, List, ◌++◌, length, map, Result, Ok, Err}
 use Rattle.ct_base.specs.declared.net.Net.{Net}
 use Rattle.sparse_program.specs.Program.{Begun}
 use Rattle.sparse_program.specs.declared.limits.TheConstants.{MAX_ROWS}
@@ -12,6 +12,18 @@ use Rattle.program_model.proofs.ColumnLaws.{Each}
 -- these rows were added, and nothing else changed
 pub record Adds (net : Net) (old new : Begun) (rows : List (SumRow Column)) : Type 0 where
   pub all : new ≡ record old { rows = old.rows ++ map (sparse (number_of net)) rows }
+
+-- a front of these rows was added, all of them or fewer, and nothing else changed
+pub record AddsFront (net : Net) (old new : Begun) (rows : List (SumRow Column)) : Type 0 where
+  pub front : List (SumRow Column)
+  pub rest : List (SumRow Column)
+  pub parts : front ++ rest ≡ rows
+  pub added : Adds net old new front
+
+-- these rows were added, or a front of them where memory was wanting
+abbrev pub AddsAllOrFront : {T E : Type 0} → Result T E → Net → Begun → Begun → List (SumRow Column) → Type 0
+AddsAllOrFront (Ok x) net old new rows = Adds net old new rows
+AddsAllOrFront (Err e) net old new rows = AddsFront net old new rows
 
 -- each of these terms names one of the first so many columns
 abbrev pub Below : Net → ℕ → List (Column × ℤ) → Type 0

@@ -5,7 +5,7 @@ ghost use Rattle.ct_base.specs.Access.{signal_of};
 ghost use Rattle.ct_base.specs.Validity.{IsValid};
 ghost use Rattle.ct_base.specs.declared.plan.Letter.TheVariants.{Clear};
 ghost use Rattle.listed.specs.Below.{table_of};
-ghost use Rattle.lo_program.specs.inner.Adding.{Adds, Fits};
+ghost use Rattle.lo_program.specs.inner.Adding.{AddsAllOrFront, Fits};
 ghost use Rattle.lo_program.specs.inner.Bits.{AreBits};
 ghost use Rattle.program_model.specs.Columns.{Bit};
 ghost use Rattle.program_model.specs.Existence.{IsLetterOf};
@@ -35,7 +35,7 @@ pub(crate) fn add_stay_rows(
     requires small { least ≤ 60 }
     requires letter { 1 < least → IsLetterOf (signal_of net.now.signals bits.now.signal) letter }
     requires fits { Fits net.now builder.old (stay_rows net.now.steps bits.now.signal t letter least) }
-    ensures { OnOk result (Adds net.now builder.old builder.new (stay_rows net.now.steps bits.now.signal t letter least)) }
+    ensures { AddsAllOrFront result net.now builder.old builder.new (stay_rows net.now.steps bits.now.signal t letter least) }
 {
     for j in 0..least.saturating_sub(1) {
         add_stay_row_within(builder, net, bits, t, letter, j + 1)?;
@@ -58,7 +58,7 @@ fn add_stay_row_within(
     requires small { k ≤ 60 }
     requires letter { IsLetterOf (signal_of net.now.signals bits.now.signal) letter }
     requires fits { Fits net.now builder.old (if nat_lt (t + k) net.now.steps then stay_row bits.now.signal t letter k ∷ [] else []) }
-    ensures { OnOk result (Adds net.now builder.old builder.new (if nat_lt (t + k) net.now.steps then stay_row bits.now.signal t letter k ∷ [] else [])) }
+    ensures { AddsAllOrFront result net.now builder.old builder.new (if nat_lt (t + k) net.now.steps then stay_row bits.now.signal t letter k ∷ [] else []) }
 {
     if t + k < bits.steps {
         add_stay_row(builder, net, bits, t, letter, k)
@@ -82,7 +82,7 @@ fn add_stay_row(
     requires small { k ≤ 60 }
     requires letter { IsLetterOf (signal_of net.now.signals bits.now.signal) letter }
     requires fits { Fits net.now builder.old (stay_row bits.now.signal t letter k ∷ []) }
-    ensures { OnOk result (Adds net.now builder.old builder.new (stay_row bits.now.signal t letter k ∷ [])) }
+    ensures { AddsAllOrFront result net.now builder.old builder.new (stay_row bits.now.signal t letter k ∷ []) }
 {
     let mut terms = Terms::new(builder.alloc());
     terms.push((bit(net, bits, t + k, letter), 1))?;
@@ -128,7 +128,7 @@ pub(crate) fn add_end_rows(
     requires small { most ≤ 60 }
     requires letter { IsLetterOf (signal_of net.now.signals bits.now.signal) letter }
     requires fits { Fits net.now builder.old (end_rows net.now.steps bits.now.signal t letter most) }
-    ensures { OnOk result (Adds net.now builder.old builder.new (end_rows net.now.steps bits.now.signal t letter most)) }
+    ensures { AddsAllOrFront result net.now builder.old builder.new (end_rows net.now.steps bits.now.signal t letter most) }
 {
     if t + most < bits.steps {
         add_end_row(builder, net, bits, t, letter, most)
@@ -152,7 +152,7 @@ pub(crate) fn add_clear_end_rows(
     requires small { clear ≤ 60 }
     requires letter { 0 < clear → IsLetterOf (signal_of net.now.signals bits.now.signal) (Clear p) }
     requires fits { Fits net.now builder.old (clear_end_rows net.now.steps bits.now.signal t p clear) }
-    ensures { OnOk result (Adds net.now builder.old builder.new (clear_end_rows net.now.steps bits.now.signal t p clear)) }
+    ensures { AddsAllOrFront result net.now builder.old builder.new (clear_end_rows net.now.steps bits.now.signal t p clear) }
 {
     if clear > 0 {
         add_end_rows(builder, net, bits, t, Letter::Clear(p), clear)
@@ -176,7 +176,7 @@ fn add_end_row(
     requires small { most ≤ 60 }
     requires letter { IsLetterOf (signal_of net.now.signals bits.now.signal) letter }
     requires fits { Fits net.now builder.old (end_row bits.now.signal t letter most ∷ []) }
-    ensures { OnOk result (Adds net.now builder.old builder.new (end_row bits.now.signal t letter most ∷ [])) }
+    ensures { AddsAllOrFront result net.now builder.old builder.new (end_row bits.now.signal t letter most ∷ []) }
 {
     let terms = terms_of_end(builder.alloc(), net, bits, t, letter, most)?;
     let rhs = minus(most);

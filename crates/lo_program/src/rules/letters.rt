@@ -1,10 +1,10 @@
 //! Rows of the letters of one step, and of those that may stand in the step after it.
 
 ghost use Rattle.std.specs.Int.{bit_at};
-ghost use Rattle.std.specs.Prelude.{◌≡◌, ◌<◌, ◌+◌, ◌==◌, [], ◌∷◌, pos, IfOk, OnOk, filter, length, map};
+ghost use Rattle.std.specs.Prelude.{◌≡◌, ◌<◌, ◌+◌, ◌==◌, [], ◌∷◌, pos, IfOk, filter, length, map};
 ghost use Rattle.ct_base.specs.Access.{phase_of, signal_of};
 ghost use Rattle.ct_base.specs.Validity.{IsSignal, IsValid};
-ghost use Rattle.lo_program.specs.inner.Adding.{Adds, Fits};
+ghost use Rattle.lo_program.specs.inner.Adding.{AddsAllOrFront, Fits};
 ghost use Rattle.lo_program.specs.inner.Bits.{AreBits, bit_terms};
 ghost use Rattle.program_model.specs.Columns.{letters_of};
 ghost use Rattle.program_model.specs.Existence.{IsLetterOf};
@@ -27,7 +27,7 @@ pub(crate) fn add_one_letter_row(
     requires bits { AreBits net.now bits.now }
     requires before { t < net.now.steps }
     requires fits { Fits net.now builder.old (one_letter_row (signal_of net.now.signals bits.now.signal) bits.now.signal t ∷ []) }
-    ensures { OnOk result (Adds net.now builder.old builder.new (one_letter_row (signal_of net.now.signals bits.now.signal) bits.now.signal t ∷ [])) }
+    ensures { AddsAllOrFront result net.now builder.old builder.new (one_letter_row (signal_of net.now.signals bits.now.signal) bits.now.signal t ∷ []) }
 {
     let terms = terms_of_letters(builder.alloc(), net, bits, t)?;
     add_row(builder, true, 1, &terms)?;
@@ -59,7 +59,7 @@ pub(crate) fn add_follow_rows(
     requires bits { AreBits net.now bits.now }
     requires before { t < net.now.steps }
     requires fits { Fits net.now builder.old (follow_rows (signal_of net.now.signals bits.now.signal) net.now.steps bits.now.signal t) }
-    ensures { OnOk result (Adds net.now builder.old builder.new (follow_rows (signal_of net.now.signals bits.now.signal) net.now.steps bits.now.signal t)) }
+    ensures { AddsAllOrFront result net.now builder.old builder.new (follow_rows (signal_of net.now.signals bits.now.signal) net.now.steps bits.now.signal t) }
 {
     if t + 1 < bits.steps {
         add_follow_row_of_each(builder, net, bits, t)
@@ -79,7 +79,7 @@ fn add_follow_row_of_each(
     requires bits { AreBits net.now bits.now }
     requires before { t + 1 < net.now.steps }
     requires fits { Fits net.now builder.old (map (follow_row (signal_of net.now.signals bits.now.signal) bits.now.signal t) (letters_of (signal_of net.now.signals bits.now.signal))) }
-    ensures { OnOk result (Adds net.now builder.old builder.new (map (follow_row (signal_of net.now.signals bits.now.signal) bits.now.signal t) (letters_of (signal_of net.now.signals bits.now.signal)))) }
+    ensures { AddsAllOrFront result net.now builder.old builder.new (map (follow_row (signal_of net.now.signals bits.now.signal) bits.now.signal t) (letters_of (signal_of net.now.signals bits.now.signal))) }
 {
     for letter in bits.letters.as_slice() {
         add_follow_row(builder, net, bits, t, *letter)?;
@@ -100,7 +100,7 @@ fn add_follow_row(
     requires before { t + 1 < net.now.steps }
     requires letter { IsLetterOf (signal_of net.now.signals bits.now.signal) letter }
     requires fits { Fits net.now builder.old (follow_row (signal_of net.now.signals bits.now.signal) bits.now.signal t letter ∷ []) }
-    ensures { OnOk result (Adds net.now builder.old builder.new (follow_row (signal_of net.now.signals bits.now.signal) bits.now.signal t letter ∷ [])) }
+    ensures { AddsAllOrFront result net.now builder.old builder.new (follow_row (signal_of net.now.signals bits.now.signal) bits.now.signal t letter ∷ []) }
 {
     let mut terms = terms_of_followers(builder.alloc(), net, bits, t + 1, letter)?;
     terms.push((bit(net, bits, t, letter), -1))?;

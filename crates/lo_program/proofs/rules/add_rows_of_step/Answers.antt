@@ -1,34 +1,30 @@
-use Rattle.std.proofs.Common.{[], ◌∷◌, ◌++◌}
 use Rattle.ct_base.specs.Access.{signal_of}
-use Rattle.program_model.specs.RuleRows.{follow_rows, one_letter_row}
-use Rattle.lo_program.proofs.RowLaws.{adds_both, fits_first, fits_second}
-use Rattle.lo_program.proofs.StepLaws.{clearing_ends, clearing_stays, fits_four, fits_one, fits_three, fits_two, green_ends, green_stays, whole_added, whole_fits}
+use Rattle.std.proofs.Common.{arith}
+use Rattle.lo_program.specs.inner.Kinds.{rows_at}
+use Rattle.lo_program.proofs.FrontLaws.{front_exit, front_part}
+use Rattle.lo_program.proofs.RowLaws.{adds_no_part, adds_part, fits_part}
+use Rattle.lo_program.proofs.StepLaws.{kinds_added, kinds_fit, kinds_front}
 use Rattle.lo_program.proofs.rules.add_rows_of_step.Goals as goal
 
-pub add_one_letter_row-requires-clause-fits : goal.add_one_letter_row-requires-clause-fits
-add_one_letter_row-requires-clause-fits c =
-    fits_first c.args.net.now c.args.builder.now (one_letter_row (signal_of c.args.net.now.signals c.args.bits.now.signal) c.args.bits.now.signal c.args.t ∷ []) ((follow_rows (signal_of c.args.net.now.signals c.args.bits.now.signal) c.args.net.now.steps c.args.bits.now.signal c.args.t) ++ (green_stays (signal_of c.args.net.now.signals c.args.bits.now.signal) c.args.net.now.steps c.args.bits.now.signal c.args.t) ++ (green_ends (signal_of c.args.net.now.signals c.args.bits.now.signal) c.args.net.now.steps c.args.bits.now.signal c.args.t) ++ (clearing_stays (signal_of c.args.net.now.signals c.args.bits.now.signal) c.args.net.now.steps c.args.bits.now.signal c.args.t) ++ (clearing_ends (signal_of c.args.net.now.signals c.args.bits.now.signal) c.args.net.now.steps c.args.bits.now.signal c.args.t)) (whole_fits c.args.net.now c.args.builder.now (signal_of c.args.net.now.signals c.args.bits.now.signal) c.args.net.now.steps c.args.bits.now.signal c.args.t c.requires.fits)
+pub loop-kind-init : goal.loop-kind-init
+loop-kind-init c = adds_no_part c.args.net.now c.args.builder.now (rows_at (signal_of c.args.net.now.signals c.args.bits.now.signal) c.args.net.now.steps c.args.bits.now.signal c.args.t)
 
-pub add_follow_rows-requires-clause-fits : goal.add_follow_rows-requires-clause-fits
-add_follow_rows-requires-clause-fits c =
-    fits_one c.args.net.now c.add_one_letter_row.new.builder (follow_rows (signal_of c.args.net.now.signals c.args.bits.now.signal) c.args.net.now.steps c.args.bits.now.signal c.args.t) (green_stays (signal_of c.args.net.now.signals c.args.bits.now.signal) c.args.net.now.steps c.args.bits.now.signal c.args.t) (green_ends (signal_of c.args.net.now.signals c.args.bits.now.signal) c.args.net.now.steps c.args.bits.now.signal c.args.t) (clearing_stays (signal_of c.args.net.now.signals c.args.bits.now.signal) c.args.net.now.steps c.args.bits.now.signal c.args.t) (clearing_ends (signal_of c.args.net.now.signals c.args.bits.now.signal) c.args.net.now.steps c.args.bits.now.signal c.args.t) (fits_second c.args.net.now c.args.builder.now c.add_one_letter_row.new.builder (one_letter_row (signal_of c.args.net.now.signals c.args.bits.now.signal) c.args.bits.now.signal c.args.t ∷ []) ((follow_rows (signal_of c.args.net.now.signals c.args.bits.now.signal) c.args.net.now.steps c.args.bits.now.signal c.args.t) ++ (green_stays (signal_of c.args.net.now.signals c.args.bits.now.signal) c.args.net.now.steps c.args.bits.now.signal c.args.t) ++ (green_ends (signal_of c.args.net.now.signals c.args.bits.now.signal) c.args.net.now.steps c.args.bits.now.signal c.args.t) ++ (clearing_stays (signal_of c.args.net.now.signals c.args.bits.now.signal) c.args.net.now.steps c.args.bits.now.signal c.args.t) ++ (clearing_ends (signal_of c.args.net.now.signals c.args.bits.now.signal) c.args.net.now.steps c.args.bits.now.signal c.args.t)) (whole_fits c.args.net.now c.args.builder.now (signal_of c.args.net.now.signals c.args.bits.now.signal) c.args.net.now.steps c.args.bits.now.signal c.args.t c.requires.fits) c.in_ok-add_one_letter_row.ensures)
+pub add_rows_of_kind-requires-clause-fits : goal.add_rows_of_kind-requires-clause-fits
+add_rows_of_kind-requires-clause-fits c =
+    fits_part c.args.net.now c.args.builder.now c.loop-kind.builder 6 c.loop-kind.kind-index (rows_at (signal_of c.args.net.now.signals c.args.bits.now.signal) c.args.net.now.steps c.args.bits.now.signal c.args.t)
+    (kinds_fit c.args.net.now c.args.builder.now (signal_of c.args.net.now.signals c.args.bits.now.signal) c.args.net.now.steps c.args.bits.now.signal c.args.t c.requires.fits) (omega (arith, c.loop-kind-test.true)) c.loop-kind.invariant
 
-pub add_green_stay_rows-requires-clause-fits : goal.add_green_stay_rows-requires-clause-fits
-add_green_stay_rows-requires-clause-fits c =
-    fits_second c.args.net.now c.add_one_letter_row.new.builder c.add_follow_rows.new.builder (follow_rows (signal_of c.args.net.now.signals c.args.bits.now.signal) c.args.net.now.steps c.args.bits.now.signal c.args.t) (green_stays (signal_of c.args.net.now.signals c.args.bits.now.signal) c.args.net.now.steps c.args.bits.now.signal c.args.t) (fits_two c.args.net.now c.add_one_letter_row.new.builder (follow_rows (signal_of c.args.net.now.signals c.args.bits.now.signal) c.args.net.now.steps c.args.bits.now.signal c.args.t) (green_stays (signal_of c.args.net.now.signals c.args.bits.now.signal) c.args.net.now.steps c.args.bits.now.signal c.args.t) (green_ends (signal_of c.args.net.now.signals c.args.bits.now.signal) c.args.net.now.steps c.args.bits.now.signal c.args.t) (clearing_stays (signal_of c.args.net.now.signals c.args.bits.now.signal) c.args.net.now.steps c.args.bits.now.signal c.args.t) (clearing_ends (signal_of c.args.net.now.signals c.args.bits.now.signal) c.args.net.now.steps c.args.bits.now.signal c.args.t) (fits_second c.args.net.now c.args.builder.now c.add_one_letter_row.new.builder (one_letter_row (signal_of c.args.net.now.signals c.args.bits.now.signal) c.args.bits.now.signal c.args.t ∷ []) ((follow_rows (signal_of c.args.net.now.signals c.args.bits.now.signal) c.args.net.now.steps c.args.bits.now.signal c.args.t) ++ (green_stays (signal_of c.args.net.now.signals c.args.bits.now.signal) c.args.net.now.steps c.args.bits.now.signal c.args.t) ++ (green_ends (signal_of c.args.net.now.signals c.args.bits.now.signal) c.args.net.now.steps c.args.bits.now.signal c.args.t) ++ (clearing_stays (signal_of c.args.net.now.signals c.args.bits.now.signal) c.args.net.now.steps c.args.bits.now.signal c.args.t) ++ (clearing_ends (signal_of c.args.net.now.signals c.args.bits.now.signal) c.args.net.now.steps c.args.bits.now.signal c.args.t)) (whole_fits c.args.net.now c.args.builder.now (signal_of c.args.net.now.signals c.args.bits.now.signal) c.args.net.now.steps c.args.bits.now.signal c.args.t c.requires.fits) c.in_ok-add_one_letter_row.ensures)) c.in_ok-add_follow_rows.ensures
+pub loop-kind-preserved : goal.loop-kind-preserved
+loop-kind-preserved c =
+    adds_part c.args.net.now c.args.builder.now c.loop-kind.builder c.add_rows_of_kind.new.builder c.loop-kind.kind-index (rows_at (signal_of c.args.net.now.signals c.args.bits.now.signal) c.args.net.now.steps c.args.bits.now.signal c.args.t)
+    c.loop-kind.invariant c.in_ok-add_rows_of_kind.ensures
 
-pub add_green_end_rows-requires-clause-fits : goal.add_green_end_rows-requires-clause-fits
-add_green_end_rows-requires-clause-fits c =
-    fits_second c.args.net.now c.add_one_letter_row.new.builder c.add_green_stay_rows.new.builder ((follow_rows (signal_of c.args.net.now.signals c.args.bits.now.signal) c.args.net.now.steps c.args.bits.now.signal c.args.t) ++ (green_stays (signal_of c.args.net.now.signals c.args.bits.now.signal) c.args.net.now.steps c.args.bits.now.signal c.args.t)) (green_ends (signal_of c.args.net.now.signals c.args.bits.now.signal) c.args.net.now.steps c.args.bits.now.signal c.args.t) (fits_three c.args.net.now c.add_one_letter_row.new.builder (follow_rows (signal_of c.args.net.now.signals c.args.bits.now.signal) c.args.net.now.steps c.args.bits.now.signal c.args.t) (green_stays (signal_of c.args.net.now.signals c.args.bits.now.signal) c.args.net.now.steps c.args.bits.now.signal c.args.t) (green_ends (signal_of c.args.net.now.signals c.args.bits.now.signal) c.args.net.now.steps c.args.bits.now.signal c.args.t) (clearing_stays (signal_of c.args.net.now.signals c.args.bits.now.signal) c.args.net.now.steps c.args.bits.now.signal c.args.t) (clearing_ends (signal_of c.args.net.now.signals c.args.bits.now.signal) c.args.net.now.steps c.args.bits.now.signal c.args.t) (fits_second c.args.net.now c.args.builder.now c.add_one_letter_row.new.builder (one_letter_row (signal_of c.args.net.now.signals c.args.bits.now.signal) c.args.bits.now.signal c.args.t ∷ []) ((follow_rows (signal_of c.args.net.now.signals c.args.bits.now.signal) c.args.net.now.steps c.args.bits.now.signal c.args.t) ++ (green_stays (signal_of c.args.net.now.signals c.args.bits.now.signal) c.args.net.now.steps c.args.bits.now.signal c.args.t) ++ (green_ends (signal_of c.args.net.now.signals c.args.bits.now.signal) c.args.net.now.steps c.args.bits.now.signal c.args.t) ++ (clearing_stays (signal_of c.args.net.now.signals c.args.bits.now.signal) c.args.net.now.steps c.args.bits.now.signal c.args.t) ++ (clearing_ends (signal_of c.args.net.now.signals c.args.bits.now.signal) c.args.net.now.steps c.args.bits.now.signal c.args.t)) (whole_fits c.args.net.now c.args.builder.now (signal_of c.args.net.now.signals c.args.bits.now.signal) c.args.net.now.steps c.args.bits.now.signal c.args.t c.requires.fits) c.in_ok-add_one_letter_row.ensures)) (adds_both c.args.net.now c.add_one_letter_row.new.builder c.add_follow_rows.new.builder c.add_green_stay_rows.new.builder (follow_rows (signal_of c.args.net.now.signals c.args.bits.now.signal) c.args.net.now.steps c.args.bits.now.signal c.args.t) (green_stays (signal_of c.args.net.now.signals c.args.bits.now.signal) c.args.net.now.steps c.args.bits.now.signal c.args.t) c.in_ok-add_follow_rows.ensures c.in_ok-add_green_stay_rows.ensures)
-
-pub add_clearing_stay_rows-requires-clause-fits : goal.add_clearing_stay_rows-requires-clause-fits
-add_clearing_stay_rows-requires-clause-fits c =
-    fits_second c.args.net.now c.add_one_letter_row.new.builder c.add_green_end_rows.new.builder ((follow_rows (signal_of c.args.net.now.signals c.args.bits.now.signal) c.args.net.now.steps c.args.bits.now.signal c.args.t) ++ (green_stays (signal_of c.args.net.now.signals c.args.bits.now.signal) c.args.net.now.steps c.args.bits.now.signal c.args.t) ++ (green_ends (signal_of c.args.net.now.signals c.args.bits.now.signal) c.args.net.now.steps c.args.bits.now.signal c.args.t)) (clearing_stays (signal_of c.args.net.now.signals c.args.bits.now.signal) c.args.net.now.steps c.args.bits.now.signal c.args.t) (fits_four c.args.net.now c.add_one_letter_row.new.builder (follow_rows (signal_of c.args.net.now.signals c.args.bits.now.signal) c.args.net.now.steps c.args.bits.now.signal c.args.t) (green_stays (signal_of c.args.net.now.signals c.args.bits.now.signal) c.args.net.now.steps c.args.bits.now.signal c.args.t) (green_ends (signal_of c.args.net.now.signals c.args.bits.now.signal) c.args.net.now.steps c.args.bits.now.signal c.args.t) (clearing_stays (signal_of c.args.net.now.signals c.args.bits.now.signal) c.args.net.now.steps c.args.bits.now.signal c.args.t) (clearing_ends (signal_of c.args.net.now.signals c.args.bits.now.signal) c.args.net.now.steps c.args.bits.now.signal c.args.t) (fits_second c.args.net.now c.args.builder.now c.add_one_letter_row.new.builder (one_letter_row (signal_of c.args.net.now.signals c.args.bits.now.signal) c.args.bits.now.signal c.args.t ∷ []) ((follow_rows (signal_of c.args.net.now.signals c.args.bits.now.signal) c.args.net.now.steps c.args.bits.now.signal c.args.t) ++ (green_stays (signal_of c.args.net.now.signals c.args.bits.now.signal) c.args.net.now.steps c.args.bits.now.signal c.args.t) ++ (green_ends (signal_of c.args.net.now.signals c.args.bits.now.signal) c.args.net.now.steps c.args.bits.now.signal c.args.t) ++ (clearing_stays (signal_of c.args.net.now.signals c.args.bits.now.signal) c.args.net.now.steps c.args.bits.now.signal c.args.t) ++ (clearing_ends (signal_of c.args.net.now.signals c.args.bits.now.signal) c.args.net.now.steps c.args.bits.now.signal c.args.t)) (whole_fits c.args.net.now c.args.builder.now (signal_of c.args.net.now.signals c.args.bits.now.signal) c.args.net.now.steps c.args.bits.now.signal c.args.t c.requires.fits) c.in_ok-add_one_letter_row.ensures)) (adds_both c.args.net.now c.add_one_letter_row.new.builder c.add_green_stay_rows.new.builder c.add_green_end_rows.new.builder ((follow_rows (signal_of c.args.net.now.signals c.args.bits.now.signal) c.args.net.now.steps c.args.bits.now.signal c.args.t) ++ (green_stays (signal_of c.args.net.now.signals c.args.bits.now.signal) c.args.net.now.steps c.args.bits.now.signal c.args.t)) (green_ends (signal_of c.args.net.now.signals c.args.bits.now.signal) c.args.net.now.steps c.args.bits.now.signal c.args.t) (adds_both c.args.net.now c.add_one_letter_row.new.builder c.add_follow_rows.new.builder c.add_green_stay_rows.new.builder (follow_rows (signal_of c.args.net.now.signals c.args.bits.now.signal) c.args.net.now.steps c.args.bits.now.signal c.args.t) (green_stays (signal_of c.args.net.now.signals c.args.bits.now.signal) c.args.net.now.steps c.args.bits.now.signal c.args.t) c.in_ok-add_follow_rows.ensures c.in_ok-add_green_stay_rows.ensures) c.in_ok-add_green_end_rows.ensures)
-
-pub add_clearing_end_rows-requires-clause-fits : goal.add_clearing_end_rows-requires-clause-fits
-add_clearing_end_rows-requires-clause-fits c =
-    fits_second c.args.net.now c.add_one_letter_row.new.builder c.add_clearing_stay_rows.new.builder ((follow_rows (signal_of c.args.net.now.signals c.args.bits.now.signal) c.args.net.now.steps c.args.bits.now.signal c.args.t) ++ (green_stays (signal_of c.args.net.now.signals c.args.bits.now.signal) c.args.net.now.steps c.args.bits.now.signal c.args.t) ++ (green_ends (signal_of c.args.net.now.signals c.args.bits.now.signal) c.args.net.now.steps c.args.bits.now.signal c.args.t) ++ (clearing_stays (signal_of c.args.net.now.signals c.args.bits.now.signal) c.args.net.now.steps c.args.bits.now.signal c.args.t)) (clearing_ends (signal_of c.args.net.now.signals c.args.bits.now.signal) c.args.net.now.steps c.args.bits.now.signal c.args.t) (fits_second c.args.net.now c.args.builder.now c.add_one_letter_row.new.builder (one_letter_row (signal_of c.args.net.now.signals c.args.bits.now.signal) c.args.bits.now.signal c.args.t ∷ []) ((follow_rows (signal_of c.args.net.now.signals c.args.bits.now.signal) c.args.net.now.steps c.args.bits.now.signal c.args.t) ++ (green_stays (signal_of c.args.net.now.signals c.args.bits.now.signal) c.args.net.now.steps c.args.bits.now.signal c.args.t) ++ (green_ends (signal_of c.args.net.now.signals c.args.bits.now.signal) c.args.net.now.steps c.args.bits.now.signal c.args.t) ++ (clearing_stays (signal_of c.args.net.now.signals c.args.bits.now.signal) c.args.net.now.steps c.args.bits.now.signal c.args.t) ++ (clearing_ends (signal_of c.args.net.now.signals c.args.bits.now.signal) c.args.net.now.steps c.args.bits.now.signal c.args.t)) (whole_fits c.args.net.now c.args.builder.now (signal_of c.args.net.now.signals c.args.bits.now.signal) c.args.net.now.steps c.args.bits.now.signal c.args.t c.requires.fits) c.in_ok-add_one_letter_row.ensures) (adds_both c.args.net.now c.add_one_letter_row.new.builder c.add_green_end_rows.new.builder c.add_clearing_stay_rows.new.builder ((follow_rows (signal_of c.args.net.now.signals c.args.bits.now.signal) c.args.net.now.steps c.args.bits.now.signal c.args.t) ++ (green_stays (signal_of c.args.net.now.signals c.args.bits.now.signal) c.args.net.now.steps c.args.bits.now.signal c.args.t) ++ (green_ends (signal_of c.args.net.now.signals c.args.bits.now.signal) c.args.net.now.steps c.args.bits.now.signal c.args.t)) (clearing_stays (signal_of c.args.net.now.signals c.args.bits.now.signal) c.args.net.now.steps c.args.bits.now.signal c.args.t) (adds_both c.args.net.now c.add_one_letter_row.new.builder c.add_green_stay_rows.new.builder c.add_green_end_rows.new.builder ((follow_rows (signal_of c.args.net.now.signals c.args.bits.now.signal) c.args.net.now.steps c.args.bits.now.signal c.args.t) ++ (green_stays (signal_of c.args.net.now.signals c.args.bits.now.signal) c.args.net.now.steps c.args.bits.now.signal c.args.t)) (green_ends (signal_of c.args.net.now.signals c.args.bits.now.signal) c.args.net.now.steps c.args.bits.now.signal c.args.t) (adds_both c.args.net.now c.add_one_letter_row.new.builder c.add_follow_rows.new.builder c.add_green_stay_rows.new.builder (follow_rows (signal_of c.args.net.now.signals c.args.bits.now.signal) c.args.net.now.steps c.args.bits.now.signal c.args.t) (green_stays (signal_of c.args.net.now.signals c.args.bits.now.signal) c.args.net.now.steps c.args.bits.now.signal c.args.t) c.in_ok-add_follow_rows.ensures c.in_ok-add_green_stay_rows.ensures) c.in_ok-add_green_end_rows.ensures) c.in_ok-add_clearing_stay_rows.ensures)
+pub returns-in_err-add_rows_of_kind : goal.returns-in_err-add_rows_of_kind
+returns-in_err-add_rows_of_kind c =
+    front_exit _ c.from_residual.result c.from_residual.ensures.1
+    (kinds_front c.args.net.now c.args.builder.now c.add_rows_of_kind.new.builder (signal_of c.args.net.now.signals c.args.bits.now.signal) c.args.net.now.steps c.args.bits.now.signal c.args.t
+    (front_part c.args.net.now c.args.builder.now c.loop-kind.builder c.add_rows_of_kind.new.builder 6 c.loop-kind.kind-index (rows_at (signal_of c.args.net.now.signals c.args.bits.now.signal) c.args.net.now.steps c.args.bits.now.signal c.args.t)
+    (omega (arith, c.loop-kind-test.true)) c.loop-kind.invariant c.in_err-add_rows_of_kind.ensures))
 
 pub returns : goal.returns
-returns c =
-    whole_added c.args.net.now c.args.builder.now c.add_clearing_end_rows.new.builder (signal_of c.args.net.now.signals c.args.bits.now.signal) c.args.net.now.steps c.args.bits.now.signal c.args.t (adds_both c.args.net.now c.args.builder.now c.add_one_letter_row.new.builder c.add_clearing_end_rows.new.builder (one_letter_row (signal_of c.args.net.now.signals c.args.bits.now.signal) c.args.bits.now.signal c.args.t ∷ []) ((follow_rows (signal_of c.args.net.now.signals c.args.bits.now.signal) c.args.net.now.steps c.args.bits.now.signal c.args.t) ++ (green_stays (signal_of c.args.net.now.signals c.args.bits.now.signal) c.args.net.now.steps c.args.bits.now.signal c.args.t) ++ (green_ends (signal_of c.args.net.now.signals c.args.bits.now.signal) c.args.net.now.steps c.args.bits.now.signal c.args.t) ++ (clearing_stays (signal_of c.args.net.now.signals c.args.bits.now.signal) c.args.net.now.steps c.args.bits.now.signal c.args.t) ++ (clearing_ends (signal_of c.args.net.now.signals c.args.bits.now.signal) c.args.net.now.steps c.args.bits.now.signal c.args.t)) c.in_ok-add_one_letter_row.ensures (adds_both c.args.net.now c.add_one_letter_row.new.builder c.add_clearing_stay_rows.new.builder c.add_clearing_end_rows.new.builder ((follow_rows (signal_of c.args.net.now.signals c.args.bits.now.signal) c.args.net.now.steps c.args.bits.now.signal c.args.t) ++ (green_stays (signal_of c.args.net.now.signals c.args.bits.now.signal) c.args.net.now.steps c.args.bits.now.signal c.args.t) ++ (green_ends (signal_of c.args.net.now.signals c.args.bits.now.signal) c.args.net.now.steps c.args.bits.now.signal c.args.t) ++ (clearing_stays (signal_of c.args.net.now.signals c.args.bits.now.signal) c.args.net.now.steps c.args.bits.now.signal c.args.t)) (clearing_ends (signal_of c.args.net.now.signals c.args.bits.now.signal) c.args.net.now.steps c.args.bits.now.signal c.args.t) (adds_both c.args.net.now c.add_one_letter_row.new.builder c.add_green_end_rows.new.builder c.add_clearing_stay_rows.new.builder ((follow_rows (signal_of c.args.net.now.signals c.args.bits.now.signal) c.args.net.now.steps c.args.bits.now.signal c.args.t) ++ (green_stays (signal_of c.args.net.now.signals c.args.bits.now.signal) c.args.net.now.steps c.args.bits.now.signal c.args.t) ++ (green_ends (signal_of c.args.net.now.signals c.args.bits.now.signal) c.args.net.now.steps c.args.bits.now.signal c.args.t)) (clearing_stays (signal_of c.args.net.now.signals c.args.bits.now.signal) c.args.net.now.steps c.args.bits.now.signal c.args.t) (adds_both c.args.net.now c.add_one_letter_row.new.builder c.add_green_stay_rows.new.builder c.add_green_end_rows.new.builder ((follow_rows (signal_of c.args.net.now.signals c.args.bits.now.signal) c.args.net.now.steps c.args.bits.now.signal c.args.t) ++ (green_stays (signal_of c.args.net.now.signals c.args.bits.now.signal) c.args.net.now.steps c.args.bits.now.signal c.args.t)) (green_ends (signal_of c.args.net.now.signals c.args.bits.now.signal) c.args.net.now.steps c.args.bits.now.signal c.args.t) (adds_both c.args.net.now c.add_one_letter_row.new.builder c.add_follow_rows.new.builder c.add_green_stay_rows.new.builder (follow_rows (signal_of c.args.net.now.signals c.args.bits.now.signal) c.args.net.now.steps c.args.bits.now.signal c.args.t) (green_stays (signal_of c.args.net.now.signals c.args.bits.now.signal) c.args.net.now.steps c.args.bits.now.signal c.args.t) c.in_ok-add_follow_rows.ensures c.in_ok-add_green_stay_rows.ensures) c.in_ok-add_green_end_rows.ensures) c.in_ok-add_clearing_stay_rows.ensures) c.in_ok-add_clearing_end_rows.ensures))
+returns c = kinds_added c.args.net.now c.args.builder.now c.loop-kind.builder (signal_of c.args.net.now.signals c.args.bits.now.signal) c.args.net.now.steps c.args.bits.now.signal c.args.t c.loop-kind.kind-index (omega (arith, c.loop-kind-test.false)) c.loop-kind.invariant

@@ -1,6 +1,7 @@
 use Rattle.std.proofs.Common.{rules, length, ◌≡◌}
 use Rattle.lo_program.proofs.RowLaws.{adds_no_part, adds_part, fits_part}
-use Rattle.lo_program.proofs.StepLaws.{rows_of_signal, rules_added, rules_fit}
+use Rattle.lo_program.proofs.StepLaws.{rows_of_signal, rules_added, rules_fit, rules_front}
+use Rattle.lo_program.proofs.FrontLaws.{front_exit, front_part}
 use Rattle.lo_program.proofs.rules.add_rule_rows.Goals as goal
 
 pub loop-signal-init : goal.loop-signal-init
@@ -19,3 +20,10 @@ pub returns : goal.returns
 returns c =
     let all : c.loop-signal.signal ≡ length c.args.net.now.signals = search (rules, c.loop-signal-test.false, c.loop-signal.auto.signal-end) in
     rules_added c.args.net.now c.args.builder.now c.loop-signal.builder c.loop-signal.signal all c.loop-signal.invariant
+
+pub returns-in_err-add_rows_of_signal : goal.returns-in_err-add_rows_of_signal
+returns-in_err-add_rows_of_signal c =
+    front_exit _ c.from_residual.result c.from_residual.ensures.1
+    (rules_front c.args.net.now c.args.builder.now c.add_rows_of_signal.new.builder
+    (front_part c.args.net.now c.args.builder.now c.loop-signal.builder c.add_rows_of_signal.new.builder (length c.args.net.now.signals) c.loop-signal.signal (rows_of_signal c.args.net.now)
+    (search (rules, c.loop-signal-test.true)) c.loop-signal.invariant c.in_err-add_rows_of_signal.ensures))

@@ -1,4 +1,4 @@
-use Rattle.std.proofs.Common.{◌≡◌, ◌+◌, ℕ, refl, ◌∙◌, sym, arith, rules, w64, to_z, of_z}
+use Rattle.std.proofs.Common.{◌≡◌, [], ◌∷◌, ◌+◌, ℕ, refl, ◌∙◌, sym, arith, rules, w64, to_z, of_z}
 use Rattle.std.specs.Prelude.{ℤ, pos, neg_ℤ}
 use Rattle.std.proofs.lemmas.Int.{to_z-of_z}
 use Rattle.listed.proofs.TableLaws.{length-table_of}
@@ -8,6 +8,7 @@ use Rattle.program_model.specs.RuleRows.{end_row}
 use Rattle.lo_program.proofs.LastingLaws.{taken-table, weight-table}
 use Rattle.lo_program.proofs.RowLaws.{adds_row, row_there}
 use Rattle.lo_program.proofs.rules.lasting.add_end_row.Goals as goal
+use Rattle.lo_program.proofs.FrontLaws.{front_exit, front_none}
 use mir.Val.{SFits}
 
 pub add_row-requires-clause-there : goal.add_row-requires-clause-there
@@ -28,4 +29,14 @@ returns c =
     let fits : SFits w64 c.minus-rhs.result = search rules in
     let kept : to_z w64 (of_z w64 c.minus-rhs.result) ≡ c.minus-rhs.result = to_z-of_z w64 c.minus-rhs.result fits in
     adds_row c.args.net.now c.args.builder.now c.add_row.new.builder (end_row c.args.bits.now.signal c.args.t c.args.letter c.args.most) _ (to_z w64 (of_z w64 c.minus-rhs.result)) c.in_ok-terms.terms refl (sym (kept ∙ c.minus-rhs.ensures)) refl
-    (taken-table c.args.net.now (c.args.most + 1) (λ k. Bit (c.args.t + k) c.args.bits.now.signal c.args.letter) ∙ sym c.in_ok-terms.ensures) c.in_ok-add_row.ensures
+    (taken-table c.args.net.now (c.args.most + 1) (λ k. Bit (c.args.t + k) c.args.bits.now.signal c.args.letter) ∙ sym c.in_ok-terms.ensures) c.in_ok-add_row.ensures.ok
+
+pub returns-in_err-terms : goal.returns-in_err-terms
+returns-in_err-terms c =
+    front_exit _ c.from_residual.result c.from_residual.ensures.1
+    (front_none c.args.net.now c.args.builder.now _ (end_row c.args.bits.now.signal c.args.t c.args.letter c.args.most ∷ []) refl)
+
+pub returns-in_err-add_row : goal.returns-in_err-add_row
+returns-in_err-add_row c =
+    front_exit _ c.from_residual-in_err-add_row.result c.from_residual-in_err-add_row.ensures.1
+    (front_none c.args.net.now c.args.builder.now _ (end_row c.args.bits.now.signal c.args.t c.args.letter c.args.most ∷ []) c.in_err-add_row.ensures.err)

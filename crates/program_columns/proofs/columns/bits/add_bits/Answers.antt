@@ -2,6 +2,7 @@ use Rattle.std.proofs.Common.{arith}
 use Rattle.sparse_program.specs.declared.limits.TheConstants.{MAX_COLUMNS}
 use Rattle.program_model.specs.Columns.{bits_at, plan_columns}
 use Rattle.program_columns.proofs.BuildingLaws.{parts_begin, parts_end, parts_fit, parts_more}
+use Rattle.program_columns.proofs.FrontLaws.{front_exit, front_part}
 use Rattle.program_columns.proofs.columns.bits.add_bits.Goals as goal
 
 pub loop-t-init : goal.loop-t-init
@@ -19,3 +20,9 @@ loop-t-preserved c =
 pub returns : goal.returns
 unfolding plan_columns
 returns c = parts_end c.args.net.now c.args.builder.now c.loop-t.builder c.args.net.now.steps c.loop-t.t (bits_at c.args.net.now.signals) c.loop-t.invariant (omega arith)
+
+pub returns-in_err-add_bits_at : goal.returns-in_err-add_bits_at
+unfolding plan_columns
+returns-in_err-add_bits_at c =
+    front_exit _ c.from_residual.result c.from_residual.ensures.1
+    (front_part c.args.net.now c.args.builder.now c.loop-t.builder c.add_bits_at.new.builder c.args.net.now.steps c.loop-t.t (bits_at c.args.net.now.signals) (omega arith) c.loop-t.invariant c.in_err-add_bits_at.ensures)

@@ -7,6 +7,7 @@ use Rattle.sparse_program.specs.declared.limits.TheConstants.{MAX_COLUMNS}
 use Rattle.program_model.specs.Columns.{Bit, Column, letters_by, letters_of}
 use Rattle.program_columns.specs.Columns.{with_columns}
 use Rattle.program_columns.proofs.BuildingLaws.{map_join, parts_begin, parts_end, parts_fit, parts_more}
+use Rattle.program_columns.proofs.FrontLaws.{front_exit, front_part}
 use Rattle.program_columns.proofs.columns.bits.add_bits_of.Goals as goal
 
 -- the bits that phase p brings
@@ -37,3 +38,11 @@ returns c =
     parts_end c.args.net.now c.args.builder.now c.loop-p.builder (length (signal_of c.args.net.now.signals c.args.s).phases) c.loop-p.p (parts c.args.net.now c.args.t c.args.s)
     c.loop-p.invariant (omega (arith, phases))
     ∙ ap (with_columns c.args.net.now c.args.builder.now) (sym (whole c.args.net.now c.args.t c.args.s))
+
+pub returns-in_err-add_bits_by : goal.returns-in_err-add_bits_by
+returns-in_err-add_bits_by c =
+    let phases = ap (λ (signal : Signal). length signal.phases) c.signal.ensures.value in
+    front_exit _ c.from_residual.result c.from_residual.ensures.1
+    (rw (whole c.args.net.now c.args.t c.args.s)
+    (front_part c.args.net.now c.args.builder.now c.loop-p.builder c.add_bits_by.new.builder (length (signal_of c.args.net.now.signals c.args.s).phases) c.loop-p.p (parts c.args.net.now c.args.t c.args.s)
+    (omega (arith, phases)) c.loop-p.invariant c.in_err-add_bits_by.ensures))

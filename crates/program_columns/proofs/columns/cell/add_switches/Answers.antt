@@ -12,4 +12,4 @@ add-requires-clause-room c =
 
 pub loop-m-preserved : goal.loop-m-preserved
 loop-m-preserved c =
-    table_grows c.args.net.now c.args.builder.now c.loop-m.builder c.add.new.builder c.loop-m._m (Switch c.args.t c.args.i) c.loop-m.invariant c.in_ok-add.ensures
+    table_grows c.args.net.now c.args.builder.now c.loop-m.builder c.add.new.builder c.loop-m._m (Switch c.args.t c.args.i) c.loop-m.invariant c.in_ok-add.ensures.ok
