@@ -1,4 +1,4 @@
--- The nodes of a tree, from the top down (docs/certificate.md, "The text").
+-- The nodes of a tree, from the top down (docs/certificate-file.md, "The text").
 use Rattle.std.specs.Prelude.{ℕ, ℤ, List, [], ◌∷◌, ◌++◌}
 use Rattle.sparse_program.specs.Box.{Ranges}
 use Rattle.certificate_model.specs.Tree.{AtLeaf, Leaf, Split, Tree, left_of, right_of}

@@ -1,4 +1,4 @@
--- Why a node is not good in its box (docs/certificate.md, "What is refused"). Of several reasons the first decides.
+-- Why a node is not good in its box (docs/certificate-file.md, "What is refused"). Of several reasons the first decides.
 use Rattle.std.specs.Prelude.{◌≡◌, ℕ, ◌+◌, ◌<◌, nat_lt, ℤ, pos, ◌+ℤ◌, ◌<ℤ◌, int_lt, int_le, unsigned_abs, true, false, not, ◌&&◌, List, [], ◌∷◌, ◌++◌, length}
 use Rattle.std.specs.Int.{int_div_euclid}
 use Rattle.refusals.specs.Faults.{where_so}

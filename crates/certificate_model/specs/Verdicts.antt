@@ -1,5 +1,6 @@
--- Which verdict the text of a certificate deserves (docs/certificate.md, "What is accepted" and "What is refused"). The lines are
--- judged one after another, each node in its own box: a certificate is refused at the first line that breaks.
+-- Which verdict the text of a certificate deserves (docs/certificate.md, "What is accepted"; docs/certificate-file.md, "What is
+-- refused"). The lines are judged one after another, each node in its own box: a certificate is refused at the first line that
+-- breaks.
 use Rattle.std.specs.Prelude.{◌≡◌, ◌⊎◌, ℕ, ◌+◌, if◌then◌else◌, ℤ, List, [], ◌∷◌, ◌++◌, length, Option, Some, None}
 use Rattle.std.specs.Str.{bytes_eq}
 use Rattle.texts.specs.Lines.{behind_lines, lines_of}
