@@ -1,4 +1,9 @@
 pub mod LineLaws
-pub mod ReadLaws
 pub mod WriteLaws
 pub mod FrontLaws
+pub mod WordLaws
+pub mod SpareLaws
+pub mod BrokenLaws
+pub mod UnfinishedLaws
+pub mod ProgressLaws
+pub mod ReaderLaws

@@ -152,12 +152,12 @@ pub split_first : (most : ℕ) (word : List ℕ) (words : List (List ℕ)) → b
     option_map (with_first most) (node_of_words (word ∷ words)) ≡ split_in words
 split_first most word words split = ap (option_map (with_first most)) (cond-true (bytes_eq word (codes "split")) _ _ split) ∙ split_with_first most words
 
-priced_with_first : (most : ℕ) (named : Option (List (ℕ × ℤ))) →
+pub priced_with_first : (most : ℕ) (named : Option (List (ℕ × ℤ))) →
     option_map (with_first most) (option_map (λ (pairs : List (ℕ × ℤ)). LeafNode (Priced pairs)) named) ≡ option_map (λ (pairs : List (ℕ × ℤ)). LeafNode (Priced pairs)) (option_map (take most) named)
 priced_with_first most None = refl
 priced_with_first most (Some pairs) = refl
 
-empty_with_first : (most : ℕ) (named : Option (List (ℕ × ℤ))) →
+pub empty_with_first : (most : ℕ) (named : Option (List (ℕ × ℤ))) →
     option_map (with_first most) (option_map (λ (pairs : List (ℕ × ℤ)). LeafNode (Empty pairs)) named) ≡ option_map (λ (pairs : List (ℕ × ℤ)). LeafNode (Empty pairs)) (option_map (take most) named)
 empty_with_first most None = refl
 empty_with_first most (Some pairs) = refl
@@ -258,8 +258,8 @@ words_kept [] most few = refl
 words_kept (word ∷ words) most few =
     node_kept word words most (bytes_eq word (codes "split")) (bytes_eq word (codes "priced")) (bytes_eq word (codes "empty")) (bytes_eq word (codes "fixed")) (omega (arith, few))
 
--- all pairs of a line are among its first, where so many are kept as it has bytes
-pub line_kept : (line : List ℕ) → option_map (with_first (length line)) (node_in line) ≡ node_in line
+-- all pairs of a line are among its first, where as many are kept as it has bytes
+pub line_kept : (most : ℕ) (line : List ℕ) → length line ≤ most → option_map (with_first most) (node_in line) ≡ node_in line
 unfolding node_in
-line_kept line =
-    words_kept (words_of line) (length line) (let few = count_by-le-length (λ byte. byte == 32) line in let words = length-slice_split (λ byte. byte == 32) line in omega (arith, few, words))
+line_kept most line few =
+    words_kept (words_of line) most (let spaces = count_by-le-length (λ byte. byte == 32) line in let words = length-slice_split (λ byte. byte == 32) line in omega (arith, spaces, words))

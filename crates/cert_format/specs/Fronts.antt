@@ -1,4 +1,4 @@
--- What a text says before its first line that breaks the form of a certificate (docs/certificate.md, "The text"): a bound, and the
+-- What a text says before its first line that breaks the form of a certificate (docs/certificate-file.md, "The text"): a bound, and the
 -- nodes of a tree from the top down. A tree that is not complete has some subtrees that are to come.
 use Rattle.std.specs.Prelude.{ℕ, zero, suc, ◌+◌, if◌then◌else◌, ℤ, pos, List, [], ◌∷◌, map, Option, Some, None, Result, Ok, Err}
 use Rattle.std.specs.Str.{bytes_eq}

@@ -1,3 +1,6 @@
 pub mod Marks
 pub mod Fronts
+pub mod Unfinished
+pub mod Progress
+pub mod Readers
 pub mod inner

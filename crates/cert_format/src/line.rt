@@ -19,14 +19,14 @@ const BOUND: &[u8] = b"bound";
 /// The first word of the line of a split.
 const SPLIT: &[u8] = b"split";
 /// The first word of the line of a priced leaf.
-const PRICED: &[u8] = b"priced";
+pub(crate) const PRICED: &[u8] = b"priced";
 /// The first word of the line of an empty leaf.
-const EMPTY: &[u8] = b"empty";
+pub(crate) const EMPTY: &[u8] = b"empty";
 /// The line of a fixed leaf.
 const FIXED: &[u8] = b"fixed";
 
 /// The most digits of the number of a column or of a row.
-const NUMBER_DIGITS: usize = 9;
+pub(crate) const NUMBER_DIGITS: usize = 9;
 
 /// What a line says of a node. The pairs of a leaf stand apart.
 #[derive(Clone, Copy, Debug, PartialEq, Eq)]
