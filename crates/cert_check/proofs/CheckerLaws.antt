@@ -1,5 +1,5 @@
 -- What the parts of the checker mean, joined.
-use Rattle.std.proofs.Common.{◌≡◌, ℕ, Bool, true, false, [], ◌∷◌, inl, inr, Err, refl, sym, ◌∙◌, ap, take}
+use Rattle.std.proofs.Common.{◌≡◌, ℕ, Bool, true, false, [], ◌∷◌, Option, inl, inr, Err, refl, sym, ◌∙◌, ap, subst, take}
 use Rattle.std.specs.Prelude.{IfSome}
 use Rattle.refusals.specs.Faults.{unless, where_so}
 use Rattle.refusals.specs.Memory.{OrMemory}
@@ -10,9 +10,10 @@ use Rattle.program_model.specs.Points.{program_of}
 use Rattle.lo_program.specs.Compiled.{compiled, size_faults}
 use Rattle.lo_program.specs.declared.fault.CompileFault.{CompileFault}
 use Rattle.lo_program.specs.declared.fault.CompileFault.TheVariants.{TooLarge, Memory}
+use Rattle.cert_check.specs.declared.known.Replayed.{Replayed}
 use Rattle.cert_check.specs.declared.walk.Walk.{Walk}
-use Rattle.cert_check.specs.inner.Known.{FixesDelay}
-use Rattle.cert_check.specs.inner.Walks.{IsStillKnown}
+use Rattle.cert_check.specs.inner.Known.{FixesDelay, IsKnown, IsReplayed}
+use Rattle.cert_check.specs.inner.Walks.{IsStillKnown, StaysKnown}
 use Rattle.cert_check.proofs.WalkLaws.{IfSome-at, IfSome-each}
 
 -- the columns of the plan come first in the network's program
@@ -20,24 +21,26 @@ plan_cols-program_of : (net : Net) → (program_of net).plan_cols ≡ plan_count
 unfolding program_of
 plan_cols-program_of net = refl
 
--- a delay that is still known is that of the plan which the box fixes
+-- a delay that is still known is that of the plan which the box fixes, and the plan that was replayed last has its replay
 pub still_fixed : (net : Net) (program : Parts) (old new : Walk) → program ≡ program_of net →
-    IfSome old.known (FixesDelay net old.costed.box) → IfSome new.known (IsStillKnown program.plan_cols old new) →
-    IfSome new.known (FixesDelay net new.costed.box)
-still_fixed net program old new is fixed still =
+    IsKnown net old.costed.box old.known → StaysKnown program.plan_cols old new → IsKnown net new.costed.box new.known
+still_fixed net program old new is known stays =
     let plan : program.plan_cols ≡ plan_count net = ap (λ (of : Parts). of.plan_cols) is ∙ plan_cols-program_of net in
-    IfSome-each (FixesDelay net new.costed.box) new.known (λ delay found.
-    let kept = IfSome-at (IsStillKnown program.plan_cols old new) new.known delay found still in
-    let before = IfSome-at (FixesDelay net old.costed.box) old.known delay kept.was fixed in
     record {
-      plan = before.plan;
-      fixes = record {
-        admissible = before.fixes.admissible;
-        lows = ap (λ (n : ℕ). take n new.costed.box.lows) (sym plan) ∙ kept.lows ∙ ap (λ (n : ℕ). take n old.costed.box.lows) plan ∙ before.fixes.lows;
-        highs = ap (λ (n : ℕ). take n new.costed.box.highs) (sym plan) ∙ kept.highs ∙ ap (λ (n : ℕ). take n old.costed.box.highs) plan ∙ before.fixes.highs;
-      };
-      is = before.is;
-    })
+      delay = IfSome-each (FixesDelay net new.costed.box) new.known.delay (λ delay found.
+          let kept = IfSome-at (IsStillKnown program.plan_cols old new) new.known.delay delay found stays.delay in
+          let before = IfSome-at (FixesDelay net old.costed.box) old.known.delay delay kept.was known.delay in
+          record {
+            plan = before.plan;
+            fixes = record {
+              admissible = before.fixes.admissible;
+              lows = ap (λ (n : ℕ). take n new.costed.box.lows) (sym plan) ∙ kept.lows ∙ ap (λ (n : ℕ). take n old.costed.box.lows) plan ∙ before.fixes.lows;
+              highs = ap (λ (n : ℕ). take n new.costed.box.highs) (sym plan) ∙ kept.highs ∙ ap (λ (n : ℕ). take n old.costed.box.highs) plan ∙ before.fixes.highs;
+            };
+            is = before.is;
+          });
+      last = subst (λ (last : Option Replayed). IfSome last (IsReplayed net)) (sym stays.last) known.last;
+    }
 
 -- the one fault that there may be is the one that is answered
 refused_where : (holds : Bool) (fault answered : CompileFault) (made : Parts) →

@@ -71,6 +71,12 @@ all_where_no_reason rows pairs none =
     let count = length-take (length rows + 1) pairs in
     take_all (length rows + 1) pairs (omega (arith, few, count))
 
+-- and so it is where all of them give none
+all_where_none : (rows : List Row) (pairs : List (ℕ × ℤ)) → pair_reasons rows 0 pairs ≡ [] → take (length rows + 1) pairs ≡ pairs
+all_where_none rows pairs none =
+    let few = few_behind rows 0 pairs (omega arith) none in
+    take_all (length rows + 1) pairs (omega (arith, few))
+
 -- ---- the first reason
 
 -- some reasons are the first of others
@@ -102,6 +108,17 @@ still_first rows pairs last why (reason ∷ more) are first =
     let is : why ≡ reason = subst (λ (reasons : List Why). IsFirst why (reasons ++ last (take (length rows + 1) pairs))) are first in
     subst (λ (reasons : List Why). IsFirst why (reasons ++ last pairs)) (sym (begins.is ∙ ap (λ (reasons : List Why). reasons ++ begins.rest) are)) is
 
+-- and the other way round
+first_still : (rows : List Row) (pairs : List (ℕ × ℤ)) (last : List (ℕ × ℤ) → List Why) (why : Why) (reasons : List Why) →
+    pair_reasons rows 0 (take (length rows + 1) pairs) ≡ reasons →
+    IsFirst why (pair_reasons rows 0 pairs ++ last pairs) → IsFirst why (pair_reasons rows 0 (take (length rows + 1) pairs) ++ last (take (length rows + 1) pairs))
+first_still rows pairs last why [] none first =
+    subst (λ (kept : List (ℕ × ℤ)). IsFirst why (pair_reasons rows 0 kept ++ last kept)) (sym (all_where_no_reason rows pairs none)) first
+first_still rows pairs last why (reason ∷ more) are first =
+    let begins : Begins (pair_reasons rows 0 (take (length rows + 1) pairs)) (pair_reasons rows 0 pairs) = first_reasons (length rows + 1) rows 0 pairs in
+    let is : why ≡ reason = subst (λ (reasons : List Why). IsFirst why (reasons ++ last pairs)) (begins.is ∙ ap (λ (reasons : List Why). reasons ++ begins.rest) are) first in
+    subst (λ (reasons : List Why). IsFirst why (reasons ++ last (take (length rows + 1) pairs))) (sym are) is
+
 -- ---- nodes of which the first pairs are kept
 
 -- what comes behind a node with the first of its pairs comes behind the node
@@ -125,6 +142,39 @@ after_first net bound box boxes number (LeafNode (tree.Empty pairs)) after (inr 
     let last : List (ℕ × ℤ) → List Why = λ (pairs : List (ℕ × ℤ)).
     where_so (int_lt (value_of_pairs (program_of net) false box pairs) (pos 1)) (NotEmpty (value_of_pairs (program_of net) false box pairs)) in
     inr (why, (still_first (program_of net).rows pairs last why _ refl first, is))
+
+-- and what comes behind the node comes behind it with the first of its pairs
+first_after : (net : Net) (bound : ℤ) (box : Ranges) (boxes : List Ranges) (number : ℕ) (node : Node) (after : Standing) →
+    AfterNode net bound box boxes number (Some node) after → AfterNode net bound box boxes number (Some (with_first (length (program_of net).rows + 1) node)) after
+first_after net bound box boxes number (SplitNode column at) after is = is
+first_after net bound box boxes number (LeafNode tree.Fixed) after is = is
+first_after net bound box boxes number (LeafNode (tree.Priced pairs)) after (inl (good, is)) =
+    let all : take (length (program_of net).rows + 1) pairs ≡ pairs = all_where_none (program_of net).rows pairs (lawful_has_none (program_of net).rows pairs good.lawful) in
+    inl (subst (IsGoodPriced net bound box) (sym all) good, is)
+first_after net bound box boxes number (LeafNode (tree.Priced pairs)) after (inr (why, (first, is))) =
+    let last : List (ℕ × ℤ) → List Why = λ (pairs : List (ℕ × ℤ)).
+    where_so (int_lt (ceiling (value_of_pairs (program_of net) true box pairs)) bound) (Weak (ceiling (value_of_pairs (program_of net) true box pairs))) in
+    inr (why, (first_still (program_of net).rows pairs last why _ refl first, is))
+first_after net bound box boxes number (LeafNode (tree.Empty pairs)) after (inl (good, is)) =
+    let all : take (length (program_of net).rows + 1) pairs ≡ pairs = all_where_none (program_of net).rows pairs (lawful_has_none (program_of net).rows pairs good.lawful) in
+    inl (subst (IsGoodEmpty net box) (sym all) good, is)
+first_after net bound box boxes number (LeafNode (tree.Empty pairs)) after (inr (why, (first, is))) =
+    let last : List (ℕ × ℤ) → List Why = λ (pairs : List (ℕ × ℤ)).
+    where_so (int_lt (value_of_pairs (program_of net) false box pairs) (pos 1)) (NotEmpty (value_of_pairs (program_of net) false box pairs)) in
+    inr (why, (first_still (program_of net).rows pairs last why _ refl first, is))
+
+-- what comes behind a line comes behind each that names the same node as far as its first pairs
+pub after_same_node : (net : Net) (bound : ℤ) (box : Ranges) (boxes : List Ranges) (number most : ℕ) (one other : Option Node) (after : Standing) →
+    most ≡ length (program_of net).rows + 1 → option_map (with_first most) one ≡ option_map (with_first most) other →
+    AfterNode net bound box boxes number one after → AfterNode net bound box boxes number other after
+after_same_node net bound box boxes number most None None after rows same is = is
+after_same_node net bound box boxes number most None (Some other) after rows same is = absurd (cc)
+after_same_node net bound box boxes number most (Some one) None after rows same is = absurd (cc)
+after_same_node net bound box boxes number most (Some one) (Some other) after rows same is =
+    let first : with_first (length (program_of net).rows + 1) one ≡ with_first (length (program_of net).rows + 1) other =
+    subst (λ (most : ℕ). with_first most one ≡ with_first most other) rows cc in
+    after_first net bound box boxes number other after
+    (subst (λ (kept : Node). AfterNode net bound box boxes number (Some kept) after) first (first_after net bound box boxes number one after is))
 
 -- a mark and its pairs are a node
 marked_is : (mark : Mark) (pairs : List (ℕ × ℤ)) → marked (Some mark) pairs ≡ Some (node_with mark pairs)

@@ -6,9 +6,10 @@ use Rattle.sparse_program.specs.Box.{IsBox, Ranges, high_of, low_of}
 use Rattle.certificate_model.specs.Tree.{IsSplit, left_of, right_of}
 use Rattle.cert_check.specs.declared.frame.Frame.{Frame}
 use Rattle.cert_check.specs.declared.frame.Frame.TheVariants.{Left, Right}
+use Rattle.cert_check.specs.declared.known.Known.{Known}
 use Rattle.cert_check.specs.declared.walk.Walk.{Walk}
 use Rattle.cert_check.specs.inner.Waiting.{AreFrames, waiting, with_high, with_low}
-use Rattle.cert_check.specs.inner.Walks.{IsStillKnown}
+use Rattle.cert_check.specs.inner.Walks.{IsStillKnown, StaysKnown}
 
 -- a high that is set back
 pub with_high-left_of : (box : Ranges) (column : ℕ) (at : ℤ) → with_high (left_of box column at) column (high_of box column) ≡ box
@@ -63,29 +64,34 @@ IfSome-at P found delay is holds = let F : Option ℕ → Type 0 = λ o. IfSome 
 -- a delay that is not forgotten is still known
 pub still_known : (plan column : ℕ) (old new : Walk) →
     (plan ≤ column → (take plan new.costed.box.lows ≡ take plan old.costed.box.lows) × (take plan new.costed.box.highs ≡ take plan old.costed.box.highs)) →
-    new.known ≡ (if nat_lt column plan then None else old.known) → IfSome new.known (IsStillKnown plan old new)
-still_known plan column old new same is =
-    still_known_where (nat_lt column plan) refl is
+    new.known ≡ record old.known { delay = if nat_lt column plan then None else old.known.delay } → StaysKnown plan old new
+still_known plan column old new same is = record {
+  delay = still_known_where (nat_lt column plan) refl (ap (λ (known : Known). known.delay) is);
+  last = ap (λ (known : Known). known.last) is;
+}
   where
-    still_known_where : (b : Bool) → nat_lt column plan ≡ b → new.known ≡ (if b then None else old.known) → IfSome new.known (IsStillKnown plan old new)
+    still_known_where : (b : Bool) → nat_lt column plan ≡ b → new.known.delay ≡ (if b then None else old.known.delay) → IfSome new.known.delay (IsStillKnown plan old new)
     still_known_where true test is = subst (λ (o : Option ℕ). IfSome o (IsStillKnown plan old new)) (sym is) tt
     still_known_where false test is =
         let kept = same (grind (arith, test)) in
-        IfSome-each (IsStillKnown plan old new) new.known (λ delay found. record { was = sym is ∙ found; lows = kept.0; highs = kept.1 })
+        IfSome-each (IsStillKnown plan old new) new.known.delay (λ delay found. record { was = sym is ∙ found; lows = kept.0; highs = kept.1 })
 
 -- nothing has changed
-pub still_known-same : (plan : ℕ) (walk : Walk) → IfSome walk.known (IsStillKnown plan walk walk)
-still_known-same plan walk =
-    IfSome-each (IsStillKnown plan walk walk) walk.known (λ delay found. record { was = found; lows = refl; highs = refl })
+pub still_known-same : (plan : ℕ) (walk : Walk) → StaysKnown plan walk walk
+still_known-same plan walk = record {
+  delay = IfSome-each (IsStillKnown plan walk walk) walk.known.delay (λ delay found. record { was = found; lows = refl; highs = refl });
+  last = refl;
+}
 
 -- one change after another
-pub still_known-more : (plan : ℕ) (old middle new : Walk) →
-    IfSome middle.known (IsStillKnown plan old middle) → IfSome new.known (IsStillKnown plan middle new) → IfSome new.known (IsStillKnown plan old new)
-still_known-more plan old middle new before after =
-    IfSome-each (IsStillKnown plan old new) new.known (λ delay found.
-    let later = IfSome-at (IsStillKnown plan middle new) new.known delay found after in
-    let earlier = IfSome-at (IsStillKnown plan old middle) middle.known delay later.was before in
-    record { was = earlier.was; lows = later.lows ∙ earlier.lows; highs = later.highs ∙ earlier.highs })
+pub still_known-more : (plan : ℕ) (old middle new : Walk) → StaysKnown plan old middle → StaysKnown plan middle new → StaysKnown plan old new
+still_known-more plan old middle new before after = record {
+  delay = IfSome-each (IsStillKnown plan old new) new.known.delay (λ delay found.
+      let later = IfSome-at (IsStillKnown plan middle new) new.known.delay delay found after.delay in
+      let earlier = IfSome-at (IsStillKnown plan old middle) middle.known.delay delay later.was before.delay in
+      record { was = earlier.was; lows = later.lows ∙ earlier.lows; highs = later.highs ∙ earlier.highs });
+  last = after.last ∙ before.last;
+}
 
 -- the frames of a left side that was entered
 pub frames_of_left : (box inner : Ranges) (frames below : List Frame) (column : ℕ) (at high : ℤ) →

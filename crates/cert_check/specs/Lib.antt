@@ -1,2 +1,3 @@
 pub mod Deserved
+pub mod Fed
 pub mod inner

@@ -4,3 +4,4 @@ pub mod Walks
 pub mod Standings
 pub mod Firsts
 pub mod Fixed
+pub mod Walked

@@ -4,14 +4,15 @@ mod fixed;
 mod pairs;
 mod split;
 
-ghost use Rattle.std.specs.Prelude.{◌≡◌, IfOk, IfSome, MatchOption};
+ghost use Rattle.std.specs.Prelude.{◌≡◌, IfOk, MatchOption};
 ghost use Rattle.ct_base.specs.Validity.{IsValid};
 ghost use Rattle.program_model.specs.Points.{program_of};
 ghost use Rattle.safe_bound.specs.Costed.{IsCostedOf};
 ghost use Rattle.certificate_model.specs.Reasons.{IsGoodNode, NodeReason};
 ghost use Rattle.certificate_model.specs.Text.{IsSpelled};
-ghost use Rattle.cert_check.specs.inner.Known.{FixesDelay, node_with};
+ghost use Rattle.cert_check.specs.inner.Known.{IsKnown, node_with};
 
+use crate::known::Known;
 use cert_format::Mark;
 use certificate_model::Why;
 use ct_base::{Memory, Net};
@@ -28,7 +29,7 @@ pub(crate) fn judge(
     net: &Net,
     program: &Program,
     costed: &mut CostedBox,
-    known: &mut Option<u64>,
+    known: &mut Known,
     bound: i64,
     mark: Mark,
     pairs: &[(u32, i64)],
@@ -37,10 +38,10 @@ pub(crate) fn judge(
     requires program { program.now ≡ program_of net.now }
     requires of { IsCostedOf program.now costed.old }
     requires spelled { IsSpelled (node_with mark pairs.now) }
-    requires known { IfSome known.old (λ delay. FixesDelay net.now costed.old.box delay) }
+    requires known { IsKnown net.now costed.old.box known.old }
     ensures reason { IfOk result (λ found. MatchOption found (IsGoodNode net.now bound costed.old.box (node_with mark pairs.now)) (λ why. NodeReason net.now bound costed.old.box (node_with mark pairs.now) why)) }
     ensures same { costed.new ≡ costed.old }
-    ensures known { IfSome known.new (λ delay. FixesDelay net.now costed.new.box delay) }
+    ensures known { IsKnown net.now costed.new.box known.new }
 {
     match mark {
         Mark::Split { column, at } => Ok(split_reason(costed, column, at)),

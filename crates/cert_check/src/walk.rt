@@ -1,14 +1,15 @@
 //! The walk over the nodes of a tree, with one box that is narrowed and set back: a split narrows it to its left side, and a leaf
 //! sets it back to the nearest split whose right side waits, and narrows it to that.
 
-ghost use Rattle.std.specs.Prelude.{◌≡◌, ◌<◌, [], ◌∷◌, if◌then◌else◌, nat_lt, true, None, Ok, OnOk, IfOk, IfSome};
+ghost use Rattle.std.specs.Prelude.{◌≡◌, ◌<◌, [], ◌∷◌, if◌then◌else◌, nat_lt, true, None, Ok, OnOk, IfOk};
 ghost use Rattle.certificate_model.specs.Tree.{IsSplit, left_of, right_of};
 ghost use Rattle.sparse_program.specs.Box.{ranges_of};
 ghost use Rattle.safe_bound.specs.Costed.{IsCostedOf};
 ghost use Rattle.cert_check.specs.inner.Waiting.{AreFrames, IsLeft, IsRight, waiting, with_high, with_low};
-ghost use Rattle.cert_check.specs.inner.Walks.{CanPass, IsStillKnown, IsWalk, boxes_behind, boxes_of};
+ghost use Rattle.cert_check.specs.inner.Walks.{CanPass, IsWalk, StaysKnown, boxes_behind, boxes_of};
 
 use crate::frame::Frame;
+use crate::known::Known;
 use cert_format::Mark;
 use listed::{Memory, Stack};
 use safe_bound::CostedBox;
@@ -22,8 +23,8 @@ pub(crate) struct Walk {
     pub costed: CostedBox,
     /// The splits above that node, the nearest one on top.
     frames: Stack<Frame>,
-    /// The delay of the plan that the box fixes, where that is known.
-    pub known: Option<u64>,
+    /// What is known of the plans of fixed leaves.
+    pub known: Known,
 }
 
 impl Walk {
@@ -31,12 +32,15 @@ impl Walk {
     pub fn start(alloc: Global, program: &Program) -> Result<Walk, Memory>
         ensures walk { IfOk result (IsWalk program.now) }
         ensures boxes { IfOk result (λ walk. boxes_of walk ≡ ranges_of program.now.columns ∷ []) }
-        ensures known { IfOk result (λ walk. walk.known ≡ None) }
+        ensures known { IfOk result (λ walk. walk.known ≡ record { delay = None; last = None }) }
     {
         Ok(Walk {
             costed: CostedBox::new(alloc, program)?,
             frames: Stack::new(alloc),
-            known: None,
+            known: Known {
+                delay: None,
+                last: None,
+            },
         })
     }
 
@@ -47,7 +51,7 @@ impl Walk {
         requires can { CanPass self.old.costed.box mark }
         ensures walk { result ≡ Ok true → IsWalk program.now self.new }
         ensures boxes { IfOk result (λ more. boxes_behind self.old mark ≡ (if more then boxes_of self.new else [])) }
-        ensures known { IfOk result (λ _. IfSome self.new.known (IsStillKnown program.now.plan_cols self.old self.new)) }
+        ensures known { IfOk result (λ _. StaysKnown program.now.plan_cols self.old self.new) }
     {
         match mark {
             Mark::Split { column, at } => {
@@ -64,7 +68,7 @@ impl Walk {
         requires split { IsSplit self.old.costed.box column at }
         ensures walk { OnOk result (IsWalk program.now self.new) }
         ensures boxes { OnOk result (boxes_of self.new ≡ left_of self.old.costed.box column at ∷ right_of self.old.costed.box column at ∷ waiting self.old.costed.box self.old.frames) }
-        ensures known { OnOk result (IfSome self.new.known (IsStillKnown program.now.plan_cols self.old self.new)) }
+        ensures known { OnOk result (StaysKnown program.now.plan_cols self.old self.new) }
     {
         self.costed.is_box();
         let high = self.costed.narrow_high(program, column, at);
@@ -79,7 +83,7 @@ impl Walk {
         requires walk { IsWalk program.now self.old }
         ensures walk { result ≡ Ok true → IsWalk program.now self.new }
         ensures boxes { IfOk result (λ more. waiting self.old.costed.box self.old.frames ≡ (if more then boxes_of self.new else [])) }
-        ensures known { IfOk result (λ _. IfSome self.new.known (IsStillKnown program.now.plan_cols self.old self.new)) }
+        ensures known { IfOk result (λ _. StaysKnown program.now.plan_cols self.old self.new) }
     {
         while let Some(frame) = self.frames.pop() {
             match frame {
@@ -106,7 +110,7 @@ impl Walk {
         requires frames { AreFrames (with_high self.old.costed.box column high) self.old.frames }
         ensures walk { OnOk result (IsWalk program.now self.new) }
         ensures boxes { OnOk result (boxes_of self.new ≡ right_of (with_high self.old.costed.box column high) column at ∷ waiting (with_high self.old.costed.box column high) self.old.frames) }
-        ensures known { OnOk result (IfSome self.new.known (IsStillKnown program.now.plan_cols self.old self.new)) }
+        ensures known { OnOk result (StaysKnown program.now.plan_cols self.old self.new) }
     {
         self.costed.undo_high(program, column, high);
         self.costed.is_box();
@@ -123,18 +127,18 @@ impl Walk {
         ensures of { IsCostedOf program.now self.new.costed }
         ensures wider { self.new.costed.box ≡ with_low self.old.costed.box column low }
         ensures frames { self.new.frames ≡ self.old.frames }
-        ensures known { IfSome self.new.known (IsStillKnown program.now.plan_cols self.old self.new) }
+        ensures known { StaysKnown program.now.plan_cols self.old self.new }
     {
         self.costed.undo_low(program, column, low);
         self.forget(program, column);
     }
 
-    /// Forgets the plan's delay where a bound of a plan column has changed.
+    /// Forgets the delay of the plan that the box fixes where a bound of a plan column has changed.
     fn forget(&mut self, program: &Program, column: u32)
-        ensures { self.new ≡ record self.old { known = if nat_lt column program.now.plan_cols then None else self.old.known } }
+        ensures { self.new ≡ record self.old { known = record self.old.known { delay = if nat_lt column program.now.plan_cols then None else self.old.known.delay } } }
     {
         if column < program.plan_cols() {
-            self.known = None;
+            self.known.delay = None;
         }
     }
 }

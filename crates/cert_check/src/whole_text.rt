@@ -12,7 +12,7 @@ ghost use Rattle.certificate_model.specs.declared.verdict.Verdict.TheVariants.{A
 ghost use Rattle.cert_check.specs.Deserved.{Deserves};
 ghost use Rattle.lo_program.specs.declared.fault.CompileFault.TheVariants.{TooLarge};
 
-use crate::checker::Checker;
+use crate::pieces::Checker;
 use certificate_model::Verdict;
 use certificate_model::laws::accepted_bounds_are_safe;
 use ct_base::Net;
@@ -30,6 +30,6 @@ pub fn verdict(alloc: Global, net: &Net, bytes: &[u8]) -> Result<Verdict, Compil
 {
     accepted_bounds_are_safe();
     let mut checker = Checker::start(alloc, net)?;
-    let behind = checker.lines(net, bytes)?;
-    Ok(checker.finish(behind))
+    checker.feed(net, bytes)?;
+    Ok(checker.finish())
 }

@@ -1,16 +1,16 @@
 -- What the parts of the checker mean.
-use Rattle.std.specs.Prelude.{◌≡◌, List, [], ◌∷◌, IfSome}
+use Rattle.std.specs.Prelude.{◌≡◌, Bool, true, false, List, [], ◌∷◌}
 use Rattle.ct_base.specs.declared.net.Net.{Net}
 use Rattle.sparse_program.specs.Box.{Ranges}
 use Rattle.program_model.specs.Points.{program_of}
 use Rattle.certificate_model.specs.Certificates.{root_of}
 use Rattle.certificate_model.specs.Verdicts as verdicts
 use Rattle.certificate_model.specs.Verdicts.{Standing}
-use Rattle.cert_check.specs.declared.checker.Checker.{Checker}
+use Rattle.cert_check.specs.declared.line_checker.LineChecker.{LineChecker}
 use Rattle.cert_check.specs.declared.state.State.{State}
 use Rattle.cert_check.specs.declared.state.State.TheVariants.{Head, Bound, Nodes, Complete, End, Broken}
 use Rattle.cert_check.specs.declared.walk.Walk.{Walk}
-use Rattle.cert_check.specs.inner.Known.{FixesDelay}
+use Rattle.cert_check.specs.inner.Known.{IsKnown}
 use Rattle.cert_check.specs.inner.Walks.{IsWalk, boxes_of}
 
 -- what has to come next, in a state and with the boxes of the walk
@@ -22,14 +22,19 @@ standing_at (Complete bound) boxes = verdicts.AtNodes bound []
 standing_at (End bound) boxes = verdicts.AtEnd bound
 standing_at (Broken line why) boxes = verdicts.Broken line why
 
+-- whether a line broke
+abbrev pub is_broken : State → Bool
+is_broken (Broken line why) = true
+is_broken _ = false
+
 -- what has to come next
-abbrev pub standing_of : Checker → Standing
+abbrev pub standing_of : LineChecker → Standing
 standing_of checker = standing_at checker.state (boxes_of checker.walk)
 
--- a walk over a tree of boxes of a network's program, and the delay that it knows
+-- a walk over a tree of boxes of a network's program, and what it knows of plans
 pub record IsWalkOf (net : Net) (walk : Walk) : Type 0 where
   pub tree : IsWalk (program_of net) walk
-  pub known : IfSome walk.known (FixesDelay net walk.costed.box)
+  pub known : IsKnown net walk.costed.box walk.known
 
 -- a walk at the top of a tree
 pub record IsAtTop (net : Net) (walk : Walk) : Type 0 where
@@ -46,6 +51,6 @@ IsWalkAt net (End bound) walk = Unit {0}
 IsWalkAt net (Broken line why) walk = Unit {0}
 
 -- a checker of certificates of a network
-pub record IsCheckerOf (net : Net) (checker : Checker) : Type 0 where
+pub record IsCheckerOf (net : Net) (checker : LineChecker) : Type 0 where
   pub program : checker.program ≡ program_of net
   pub walk : IsWalkAt net checker.state checker.walk

@@ -1,5 +1,5 @@
 -- The walk over the nodes of a tree.
-use Rattle.std.specs.Prelude.{◌≡◌, ℕ, List, ◌∷◌, take, Some}
+use Rattle.std.specs.Prelude.{◌≡◌, ℕ, List, ◌∷◌, take, Some, IfSome}
 use Rattle.sparse_program.specs.Box.{Ranges}
 use Rattle.sparse_program.specs.Program.{Parts}
 use Rattle.safe_bound.specs.Costed.{IsCostedOf}
@@ -20,9 +20,14 @@ pub record IsWalk (program : Parts) (walk : Walk) : Type 0 where
 
 -- a delay is still known: it was, and no bound of a plan column has changed
 pub record IsStillKnown (plan_columns : ℕ) (old new : Walk) (delay : ℕ) : Type 0 where
-  pub was : old.known ≡ Some delay
+  pub was : old.known.delay ≡ Some delay
   pub lows : take plan_columns new.costed.box.lows ≡ take plan_columns old.costed.box.lows
   pub highs : take plan_columns new.costed.box.highs ≡ take plan_columns old.costed.box.highs
+
+-- a delay that is known is still known, and the plan that was replayed last is the same
+pub record StaysKnown (plan_columns : ℕ) (old new : Walk) : Type 0 where
+  pub delay : IfSome new.known.delay (IsStillKnown plan_columns old new)
+  pub last : new.known.last ≡ old.known.last
 
 -- the walk can go on behind a node: where that is a split, it is one of the present box
 abbrev pub CanPass : Ranges → Mark → Type 0

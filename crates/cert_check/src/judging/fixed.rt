@@ -7,9 +7,9 @@ ghost use Rattle.safe_bound.specs.Costed.{IsCostedOf};
 ghost use Rattle.certificate_model.specs.Leaves.{IsGoodFixed};
 ghost use Rattle.certificate_model.specs.Reasons.{FixedReason, IsUnfixed};
 ghost use Rattle.cert_check.specs.inner.Fixed.{AreLeft};
-ghost use Rattle.cert_check.specs.inner.Known.{FixesDelay};
+ghost use Rattle.cert_check.specs.inner.Known.{FixesDelay, IsKnown, IsReplayed};
 
-use cell_replay::delay;
+use crate::known::{Known, Replayed, replayed_delay};
 use certificate_model::Why;
 use ct_base::{Memory, Net};
 use plan_bits::plan_of_bits;
@@ -17,29 +17,29 @@ use safe_bound::CostedBox;
 use sparse_program::Program;
 use std::alloc::Global;
 
-/// The first reason why a fixed leaf is not good in its box. The delay of the plan is replayed only where it is not known, and is
-/// kept.
+/// The first reason why a fixed leaf is not good in its box. The plan is replayed only where its delay is not known, and
+/// from the first step on at which it shows other letters than the plan that was replayed last.
 pub fn fixed_reason(
     alloc: Global,
     net: &Net,
     program: &Program,
     costed: &CostedBox,
-    known: &mut Option<u64>,
+    known: &mut Known,
     bound: i64,
 ) -> Result<Option<Why>, Memory>
     requires valid { IsValid net.now }
     requires program { program.now ≡ program_of net.now }
     requires of { IsCostedOf program.now costed.now }
-    requires known { IfSome known.old (FixesDelay net.now costed.now.box) }
+    requires known { IsKnown net.now costed.now.box known.old }
     ensures reason { IfOk result (λ found. MatchOption found (IsGoodFixed net.now bound costed.now.box) (FixedReason net.now bound costed.now.box)) }
-    ensures known { IfSome known.new (FixesDelay net.now costed.now.box) }
+    ensures known { IsKnown net.now costed.now.box known.new }
 {
-    if let Some(delay) = *known {
+    if let Some(delay) = known.delay {
         return Ok(weak_reason(net, costed, delay, bound));
     }
-    match fixed_delay(alloc, net, program, costed)? {
+    match fixed_delay(alloc, net, program, costed, &mut known.last)? {
         Ok(delay) => {
-            *known = Some(delay);
+            known.delay = Some(delay);
             Ok(weak_reason(net, costed, delay, bound))
         }
         Err(why) => Ok(Some(why)),
@@ -65,18 +65,21 @@ fn fixed_delay(
     net: &Net,
     program: &Program,
     costed: &CostedBox,
+    last: &mut Option<Replayed>,
 ) -> Result<Result<u64, Why>, Memory>
     requires valid { IsValid net.now }
     requires program { program.now ≡ program_of net.now }
     requires of { IsCostedOf program.now costed.now }
-    ensures { IfOk result (λ found. MatchResult found (FixesDelay net.now costed.now.box) (λ why. (bound : ℤ) → FixedReason net.now bound costed.now.box why)) }
+    requires last { IfSome last.old (IsReplayed net.now) }
+    ensures found { IfOk result (λ found. MatchResult found (FixesDelay net.now costed.now.box) (λ why. (bound : ℤ) → FixedReason net.now bound costed.now.box why)) }
+    ensures last { IfSome last.new (IsReplayed net.now) }
 {
     let bits = match fixed_bits(alloc, net, program, costed)? {
         Some(bits) => bits,
         None => return Ok(Err(Why::NotFixed)),
     };
     match plan_of_bits(alloc, net, bits.as_slice())? {
-        Some(plan) => Ok(Ok(delay(alloc, net, &plan)?)),
+        Some(plan) => Ok(Ok(replayed_delay(alloc, net, last, plan)?)),
         None => Ok(Err(Why::NotPlan)),
     }
 }

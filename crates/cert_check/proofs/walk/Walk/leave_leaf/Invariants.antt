@@ -1,14 +1,13 @@
 use Rattle.std.proofs.Common.{◌≡◌, length}
-use Rattle.std.specs.Prelude.{IfSome}
 use Rattle.cert_check.specs.inner.Waiting.{waiting}
-use Rattle.cert_check.specs.inner.Walks.{IsStillKnown, IsWalk}
+use Rattle.cert_check.specs.inner.Walks.{IsWalk, StaysKnown}
 use Rattle.cert_check.proofs.walk.Walk.leave_leaf.Given as goal
 
 abbrev pub invariant-loop-frame : goal.invariant-loop-frame
 invariant-loop-frame l = record {
   walk : IsWalk l.program l.self;
   boxes : waiting l.initial.self.costed.box l.initial.self.frames ≡ waiting l.self.costed.box l.self.frames;
-  known : IfSome l.self.known (IsStillKnown l.program.plan_cols l.initial.self l.self);
+  known : StaysKnown l.program.plan_cols l.initial.self l.self;
 }
 
 abbrev pub decreases-loop-frame : goal.decreases-loop-frame

@@ -1,6 +1,6 @@
 use Rattle.std.proofs.Common.{◌≡◌, Err, rules}
 use Rattle.cert_check.proofs.CheckerLaws.{refused_is_large}
-use Rattle.cert_check.proofs.checker.Checker.start.Goals as goal
+use Rattle.cert_check.proofs.line_checker.LineChecker.start.Goals as goal
 
 pub returns-in_err-program-clause-refused : goal.returns-in_err-program-clause-refused
 returns-in_err-program-clause-refused c = λ count is.

@@ -15,11 +15,11 @@ use Rattle.cert_check.specs.inner.Standings.{standing_at}
 use Rattle.cert_check.specs.inner.Waiting.{waiting}
 use Rattle.cert_check.specs.inner.Walks.{boxes_of}
 use Rattle.cert_check.proofs.FirstPairs.{after_read, read_is_spelled}
-use Rattle.cert_check.proofs.checker.Checker.after_node.Goals as goal
+use Rattle.cert_check.proofs.line_checker.LineChecker.after_node.Goals as goal
 
 pub after_mark-requires-clause-spelled : goal.after_mark-requires-clause-spelled
 after_mark-requires-clause-spelled c =
-    read_is_spelled c.args.line.now (c.rows.result + 1) c.in-Some.mark c.read_node.new.pairs.items
+    read_is_spelled c.args.line.now c.most_pairs-most.result c.in-Some.mark c.read_node.new.pairs.items
     (c.in_ok-mark.ensures.node ∙ ap (λ (mark : Option Mark). marked mark c.read_node.new.pairs.items) c.in-Some.is)
 
 pub returns-in-Some-clause-after : goal.returns-in-Some-clause-after
@@ -30,8 +30,8 @@ returns-in-Some-clause-after c =
     AfterNode c.args.net.now bound box boxes c.args.self.now.line (Some (node_with c.in-Some.mark c.read_node.new.pairs.items)) (standing_at state (boxes_of c.after_mark.new.self.walk)) in
     IfOk-weaker c.after_mark.result (kept c.args.bound)
     (λ state. AfterNode c.args.net.now c.args.bound box boxes c.args.self.now.line (node_in c.args.line.now) (standing_at state (boxes_of c.after_mark.new.self.walk)))
-    (λ state. after_read c.args.net.now c.args.bound box boxes c.args.self.now.line c.args.line.now (c.rows.result + 1) c.in-Some.mark c.read_node.new.pairs.items
+    (λ state. after_read c.args.net.now c.args.bound box boxes c.args.self.now.line c.args.line.now c.most_pairs-most.result c.in-Some.mark c.read_node.new.pairs.items
     (standing_at state (boxes_of c.after_mark.new.self.walk))
-    (ap (λ n. n + 1) (c.rows.ensures.value ∙ ap (λ (program : Parts). length program.rows) c.requires.program))
+    (c.most_pairs-most.ensures ∙ ap (λ (program : Parts). length program.rows + 1) c.requires.program)
     (c.in_ok-mark.ensures.node ∙ ap (λ (mark : Option Mark). marked mark c.read_node.new.pairs.items) c.in-Some.is))
     (subst (λ (bound : ℤ). IfOk c.after_mark.result (kept bound)) (to_z-of_z w64 c.args.bound c.ranges.bound) c.after_mark.ensures.after)

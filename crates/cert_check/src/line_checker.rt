@@ -1,6 +1,6 @@
-//! The checker of a certificate, which takes the lines of its text one after another.
+//! The lines of a certificate, checked one after another.
 
-ghost use Rattle.std.specs.Prelude.{◌≡◌, ◌+◌, ◌<◌, ◌^◌, ℤ, ℕ, [], ◌∷◌, if◌then◌else◌, None, Some, Err, OnOk, IfOk, length};
+ghost use Rattle.std.specs.Prelude.{◌≡◌, ◌+◌, ◌<◌, ◌^◌, ℤ, ℕ, [], ◌∷◌, false, if◌then◌else◌, None, Some, Err, OnOk, IfOk, length};
 ghost use Rattle.std.specs.Str.{bytes_eq};
 ghost use Rattle.ct_base.specs.Validity.{IsValid};
 ghost use Rattle.program_model.specs.Points.{program_of, rows};
@@ -13,7 +13,7 @@ ghost use Rattle.certificate_model.specs.Verdicts.{After, AfterNode, AtHead, AtN
 ghost use Rattle.certificate_model.specs.declared.verdict.Why.TheVariants.{Form};
 ghost use Rattle.cert_check.specs.declared.state.State.TheVariants as state;
 ghost use Rattle.cert_check.specs.inner.Known.{node_with};
-ghost use Rattle.cert_check.specs.inner.Standings.{IsCheckerOf, IsWalkAt, IsWalkOf, standing_at, standing_of};
+ghost use Rattle.cert_check.specs.inner.Standings.{IsCheckerOf, IsWalkAt, IsWalkOf, is_broken, standing_at, standing_of};
 ghost use Rattle.cert_check.specs.inner.Waiting.{waiting};
 ghost use Rattle.cert_check.specs.inner.Walks.{boxes_of};
 
@@ -30,7 +30,7 @@ use std::alloc::Global;
 
 /// What the lines so far have shown of a certificate of one network.
 #[derive(Debug, Drop)]
-pub(crate) struct Checker {
+pub(crate) struct LineChecker {
     program: Program,
     walk: Walk,
     /// The pairs of the leaf at hand: one vector, which is used again for each.
@@ -40,9 +40,9 @@ pub(crate) struct Checker {
     state: State,
 }
 
-impl Checker {
+impl LineChecker {
     /// The checker before the first line.
-    pub fn start(alloc: Global, net: &Net) -> Result<Checker, CompileFault>
+    pub fn start(alloc: Global, net: &Net) -> Result<LineChecker, CompileFault>
         requires { IsValid net.now }
         ensures fits { IfOk result (λ _. size_faults net.now ≡ []) }
         ensures refused { (count : ℕ) → result ≡ Err (TooLarge count) → size_faults net.now ≡ TooLarge count ∷ [] }
@@ -53,13 +53,21 @@ impl Checker {
     {
         let program = compile(alloc, net)?;
         let walk = Walk::start(alloc, &program)?;
-        Ok(Checker {
+        Ok(LineChecker {
             program,
             walk,
             pairs: Vec::new(alloc),
             line: 1,
             state: State::Head,
         })
+    }
+
+    /// How many pairs of a leaf are looked at. Those that are lawful are no more than rows: with one more the first that is not lawful
+    /// is among them.
+    pub fn most_pairs(&self) -> usize
+        ensures { result ≡ length self.now.program.rows + 1 }
+    {
+        self.program.rows() as usize + 1
     }
 
     /// Takes the next line. Where memory is wanting, nothing is known of the checker.
@@ -88,21 +96,33 @@ impl Checker {
         Ok(())
     }
 
-    /// Takes all lines of a text, and answers what stands behind the last of them.
+    /// Takes the lines of a text up to the first that breaks, and answers what stands behind the last of them. Behind a line that broke
+    /// nothing is read, and the answer is empty.
     pub fn lines<'a>(&mut self, net: &Net, text: &'a [u8]) -> Result<&'a [u8], Memory>
         requires valid { IsValid net.now }
         requires of { IsCheckerOf net.now self.old }
         requires few { self.old.line + length text.now < 2 ^ 64 }
-        ensures reached { IfOk result (λ _. Reaches net.now self.old.line (standing_of self.old) (lines_of text.now) (standing_of self.new)) }
-        ensures line { IfOk result (λ _. self.new.line ≡ self.old.line + length (lines_of text.now)) }
-        ensures behind { IfOk result (λ behind. behind.now ≡ behind_lines text.now) }
+        ensures of { OnOk result (IsCheckerOf net.now self.new) }
+        ensures reached { OnOk result (Reaches net.now self.old.line (standing_of self.old) (lines_of text.now) (standing_of self.new)) }
+        ensures line { OnOk result (is_broken self.new.state ≡ false → self.new.line ≡ self.old.line + length (lines_of text.now)) }
+        ensures behind { IfOk result (λ behind. is_broken self.new.state ≡ false → behind.now ≡ behind_lines text.now) }
     {
         let mut rest = text;
-        while let Some((line, behind)) = take_line(rest) {
+        'lines: while !self.is_broken() {
+            let Some((line, behind)) = take_line(rest) else {
+                return Ok(rest);
+            };
             self.line(net, line)?;
             rest = behind;
         }
-        Ok(rest)
+        Ok(&[])
+    }
+
+    /// Whether a line broke, so that nothing counts any more.
+    pub fn is_broken(&self) -> bool
+        ensures { result ≡ is_broken self.now.state }
+    {
+        matches!(self.state, State::Broken { .. })
     }
 
     /// The verdict where the text ends: these bytes are there of the next line, but not its line feed.
@@ -142,8 +162,7 @@ impl Checker {
         ensures program { self.new.program ≡ self.old.program }
         ensures line { self.new.line ≡ self.old.line }
     {
-        // Pairs that are lawful are no more than rows: with one more the first that is not lawful is among those that are kept.
-        let most = self.program.rows() as usize + 1;
+        let most = self.most_pairs();
         match read_node(line, most, &mut self.pairs)? {
             Some(mark) => self.after_mark(net, bound, mark),
             None => Ok(State::Broken {

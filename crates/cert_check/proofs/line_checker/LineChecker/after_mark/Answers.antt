@@ -2,7 +2,7 @@ use Rattle.std.proofs.Common.{Ok, ap, subst}
 use Rattle.sparse_program.specs.Program.{Parts}
 use Rattle.cert_check.specs.inner.Walks.{IsWalk}
 use Rattle.cert_check.proofs.CheckerLaws.{still_fixed}
-use Rattle.cert_check.proofs.checker.Checker.after_mark.Goals as goal
+use Rattle.cert_check.proofs.line_checker.LineChecker.after_mark.Goals as goal
 
 pub returns-then-branch-clause-walk : goal.returns-then-branch-clause-walk
 returns-then-branch-clause-walk c = record {
