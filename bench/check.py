@@ -13,11 +13,12 @@ Certificates are made for the program of a network, as `program` writes it: for 
 - 32,768 fixed leaves under one plan, split by occupancies, and fixed leaves under plans that end otherwise.
 
 Each is counted under `valgrind --tool=callgrind`, beyond a certificate of one leaf, and by the bytes of its text; the last rows
-are peak memory. Wanted are the numbers of the last column.
+are the peak memory of one leaf, and that of others beyond it, which may be MOST_BEYOND at most. Wanted are the numbers of the
+last column.
 
 Then come the hostile ones, each with its size, status, printed lines, instructions and peak memory. Those of above 16 MB are run
 plainly alone. One passes where it ends with the lines that are wanted, and takes at most BYTE_INSTRUCTIONS for each byte and
-BASE_MILLIONS beside, and at most BYTE_MEMORY bytes for each byte and BASE_KILOBYTES beside. Files are made one at a time and
+BASE_MILLIONS beside, and, however long it is, at most MOST_BEYOND more memory than one leaf. Files are made one at a time and
 deleted behind their run. The last line counts what is kept; the status is 0 where all is. The program is the built one (run
 ./planner first) or the one that is named.
 """
@@ -37,15 +38,17 @@ import compile
 import replay
 
 LONGEST = 134_217_728
+MANY = 104_857_600
 BOUND = -999_999_999_999_999
 HEAD, END = 'ctm-cert 1\nbound %d\n' % BOUND, 'end\n'
 ACCEPTED = 'accepted\nbound %d\n' % BOUND
 STEPS, FEW_STEPS = 60, 6
 SPLITS, PAIRS, LEAVES = 10_000, 2_000, 51
+CHAIN = 5_000  # splits of a chain whose memory is counted
 VALUES = 32  # of each occupancy that fixed leaves are split by
 
 BYTE_INSTRUCTIONS, BASE_MILLIONS = 110, 400
-BYTE_MEMORY, BASE_KILOBYTES = 10, 65_536
+MOST_BEYOND = 24_576  # kilobytes that a certificate may take beyond one leaf, however long it is
 MOST_COUNTED = 16_777_216  # bytes of a hostile certificate that is run under valgrind
 
 
@@ -182,7 +185,30 @@ def ending_plans(net):
     return plans
 
 
+def whole_tree(net, kind):
+    """A good tree of leaves of a kind without pairs, nearly as long as a certificate may be."""
+    wide = net.wide(VALUES)
+    plans = [programs.crossing_plan(net.net['steps'])] if kind == 'fixed' else []
+    before, behind = tree_of_plans(net, plans, '%s').split('%s') if plans else ('', '')
+    last = combs(net, leaf(kind), wide[:3])
+    parts, room = [before], LONGEST - len(HEAD + before + last + behind + END)
+    for column, unit in [(wide[4], combs(net, last, wide[3:4])), (wide[5], last)]:
+        for at in range(net.program.columns[column].low, net.program.columns[column].high):
+            if len(split(column, at) + unit) > room:
+                break
+            parts += [split(column, at), unit]
+            room -= len(split(column, at) + unit)
+    return ''.join(parts + [last, behind])
+
+
 # What is counted.
+
+def own_memory(program, folder, net):
+    """The most memory, in kilobytes, that a check of a certificate of one leaf takes."""
+    path = folder / 'leaf.cert'
+    path.write_text(HEAD + leaf('priced') + END)
+    return measure.peak_memory([program, 'check', net.path, path])
+
 
 def counted(program, folder, large, small):
     """What is counted: its name, its number, and the most that is wanted or None."""
@@ -222,17 +248,19 @@ def counted(program, folder, large, small):
     plans = ending_plans(large)
     text = tree_of_plans(large, plans, leaf('fixed'))
     yield 'of a byte: %d fixed leaves under as many plans' % len(plans), of_a_byte(large, text), None
+    own = own_memory(program, folder, large)
+    yield 'peak memory of one leaf, kB', own, None
     for what, text in [
-        ('one leaf', leaf('priced')),
-        ('20,001 nodes to the right', chains_of_splits(large, pairless, True)),
-        ('20,001 nodes to the left', chains_of_splits(large, pairless, False)),
+        ('a chain of 5,000 splits to the right', chains_of_splits(large, pairless, True, CHAIN)),
+        ('a chain of 5,000 splits to the left', chains_of_splits(large, pairless, False, CHAIN)),
         ('a million fixed leaves under one plan', tree_of_plans(large, [programs.crossing_plan(STEPS)],
                                                                 combs(large, leaf('fixed'), large.wide(VALUES)[:4]))),
+        ('short leaves', whole_tree(large, 'priced')),
     ]:
         done = measure.run(run(large, text))
         if done.printed != ACCEPTED:
             sys.exit('bench: %s ended with %d, %s' % (what, done.status, done.printed))
-        yield 'peak memory, kB, of %d kB: %s' % (len(text) // 1024, what), done.kilobytes, None
+        yield 'beyond it, kB, of %d kB: %s' % (len(text) // 1024, what), done.kilobytes - own, MOST_BEYOND
 
 
 # What is hostile: a name, the pieces of the text, and the lines that are wanted.
@@ -259,7 +287,6 @@ def of_text(*texts):
 def hostile(net):
     every_byte = bytes(range(256))
     splits = list(steps_of(net, range(len(net.program.columns)), False))
-    plan, wide = programs.crossing_plan(net.net['steps']), net.wide(VALUES)
     good = chain([], [leaf('priced')], True)
     yield 'an empty file', of_text(''), rejected(1, 'form')
     yield 'the first line alone', of_text('ctm-cert 1\n'), rejected(2, 'form')
@@ -287,20 +314,20 @@ def hostile(net):
         yield '128 MB of byte %d behind the end' % value, filled(HEAD + good + END, bytes([value])), rejected(5, 'tail')
     yield 'leaves behind a whole tree', filled(HEAD + good, leaf('priced')), rejected(4, 'form')
     yield 'ends in place of nodes', filled(HEAD, END), rejected(3, 'form')
-    for what, kind in [('priced', 'priced'), ('fixed', 'fixed')]:
-        unit = combs(net, leaf(kind), wide[:4])
-        count = (LONGEST - 1_000_000) // (len(unit) + 20)
-        tree = tree_of_plans(net, [plan], '%s') if kind == 'fixed' else '%s'
-        before, behind = tree.split('%s')
-        column, low = wide[4], net.program.columns[wide[4]].low
-        parts = itertools.chain.from_iterable((split(column, low + j), unit) for j in range(count - 1))
-        yield 'a good tree of %d MB with %s leaves' % (count * len(unit) >> 20, what), of_text(HEAD, before, *parts, unit, behind, END), ACCEPTED
+    for kind in ['priced', 'fixed']:
+        tree = whole_tree(net, kind)
+        yield 'a good tree of %d MB with %s leaves' % (len(tree) >> 20, kind), of_text(HEAD, tree, END), ACCEPTED
+    yield 'a break in the first piece and 100 MB behind it', filled('ctm-cert 2\n', leaf('priced'), MANY), rejected(1, 'form')
+    yield 'a row many times in a line of 100 MB without its end', filled(HEAD + 'priced', ' 0 1', MANY), rejected(3, 'form')
     yield '134,217,729 bytes', filled('', ' ', LONGEST + 1), rejected(0, 'long')
+    yield 'a break in the first piece, and 134,217,729 bytes', filled('ctm-cert 2\n', ' ', LONGEST + 1), rejected(0, 'long')
+    yield 'a whole certificate, and 134,217,729 bytes', filled(HEAD + good + END, ' ', LONGEST + 1), rejected(0, 'long')
 
 
 def tried(program, folder, net):
     """How many hostile certificates pass, and how many do not."""
     passed = failed = 0
+    own = own_memory(program, folder, net)
     path = folder / 'hostile.cert'
     for what, pieces, wanted in hostile(net):
         with open(path, 'wb') as file:
@@ -314,7 +341,7 @@ def tried(program, folder, net):
         path.unlink()
         good = run.printed == wanted and run.status == (0 if wanted == ACCEPTED else 1)
         good = good and (millions is None or millions <= BASE_MILLIONS + BYTE_INSTRUCTIONS * size / 1_000_000)
-        good = good and run.kilobytes <= BASE_KILOBYTES + BYTE_MEMORY * size / 1024
+        good = good and run.kilobytes <= own + MOST_BEYOND
         passed, failed = passed + good, failed + (not good)
         print('%s%-50s %9d bytes  %d  %-32s %s %7d kB' % (
             '' if good else 'FAILED ', what, size, run.status, run.printed[:100].strip().replace('\n', ', '),

@@ -1,5 +1,5 @@
 #!/usr/bin/env python3
-"""Checks a certificate of a network by the text of docs/certificate.md, apart from the program.
+"""Checks a certificate of a network by docs/certificate.md and docs/certificate-file.md, apart from the program.
 
 usage: tools/check_certificate.py NET [PLAN] CERT   (Python 3.11, for tomllib)
 

@@ -4,6 +4,7 @@ pub mod FileLists
 pub mod KeptPromises
 pub mod KnownLimits
 pub mod NamedOutputs
+pub mod Pieces
 pub mod Reading
 pub mod TraceCells
 pub mod Unnamed

@@ -1,5 +1,5 @@
 -- What a part of a command found by reading, as what the files deserve.
-use Rattle.std.proofs.Common.{◌≡◌, ℕ, ◌≤◌, ◌<◌, ◌+◌, inl, inr, subst, Bool, true, false, cond, if◌then◌else◌, nat_lt, List, length, replicate, Option, Some, None, MatchOption, Result, Ok, Err, IfOk, refl, ap, sym, ◌∙◌, arith}
+use Rattle.std.proofs.Common.{◌≡◌, ℕ, ◌≤◌, ◌<◌, ◌+◌, inl, inr, subst, Bool, true, false, cond, if◌then◌else◌, nat_lt, List, length, replicate, Option, Some, None, MatchOption, Result, Ok, Err, refl, ap, sym, ◌∙◌, arith}
 use Rattle.std.proofs.lemmas.Bool.Decides.{nat_tests}
 use Rattle.std.proofs.lemmas.List.{length-replicate}
 use Rattle.std.proofs.lemmas.Slice.Eq.{bytes_eq-Decides}
@@ -16,7 +16,7 @@ use Rattle.signal_cli.specs.Answers.{◌>>=◌, Follows, content_in, content_of,
 use Rattle.shelf_io.specs.Front.{EndsReading}
 use Rattle.shelf_io.specs.declared.whole_file.ReadAll.{ReadAll}
 use Rattle.shelf_io.specs.declared.whole_file.ReadAll.TheVariants as ended
-use Rattle.signal_cli.specs.inner.Causes.{Finds, Gives, IsWithin, ended_as}
+use Rattle.signal_cli.specs.inner.Causes.{Finds, Gives, ended_as}
 use Rattle.signal_cli.specs.Worlds.{ForFiles, ForTold}
 use Rattle.signal_cli.specs.declared.fault.Fault.{Fault}
 use Rattle.signal_cli.specs.declared.fault.Fault.TheVariants.{Read, Memory}
@@ -92,12 +92,6 @@ pub ended_found : (end : ReadAll) (before after : ShelfState) (name : List ℕ) 
 ended_found ended.TooLong before after name limit long = (long.0, too_long_seen before.files name limit long.1)
 ended_found ended.Fault before after name limit failed = read_fault_found before after name limit failed
 ended_found ended.Memory before after name limit same = same
-
--- no longer file is seen whole
-pub ended_within : (end : ReadAll) (limit : ℕ) → IfOk (ended_as end) (IsWithin limit)
-ended_within ended.TooLong limit = tt
-ended_within ended.Fault limit = tt
-ended_within ended.Memory limit = tt
 
 -- What follows from what was read, without a further read.
 pub found_then : {X Y : Type 0} (g : Files → Result X Fault) (next : X → Result Y Fault) (x : X) (made : Result Y Fault) (before after : ShelfState) → Finds (λ files outcome. g files ≡ outcome) (Ok x) before after → Gives made (next x) → Finds (λ files outcome. (g files >>= next) ≡ outcome) made before after

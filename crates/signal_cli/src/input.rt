@@ -1,16 +1,15 @@
-//! What a command reads: networks and plans, each judged as soon as its bytes are there, and certificates.
+//! What a command reads whole: networks and plans, each judged as soon as its bytes are there.
 
-ghost use Rattle.std.specs.Prelude.{◌≡◌, ◌≤◌, [], false, Err, IfErr, IfOk, OnOk};
+ghost use Rattle.std.specs.Prelude.{◌≡◌, [], false, Err, IfErr, IfOk, OnOk};
 ghost use Rattle.std.specs.Str.{bytes_eq};
 ghost use Rattle.traffic_model.specs.Runs.{IsAdmissiblePlan};
 ghost use Rattle.lo_program.specs.Compiled.{size_faults};
 ghost use Rattle.signal_cli.specs.Answers.{content_in, network, network_from, network_in, plan, plan_from, plan_in, planned_in, sized, sized_in, sized_planned_in};
-ghost use Rattle.signal_cli.specs.inner.Causes.{Finds, Gives, IsWithin, ended_as};
-ghost use Rattle.certificate_model.specs.declared.constants.TheConstants.{MAX_CERTIFICATE_BYTES};
+ghost use Rattle.signal_cli.specs.inner.Causes.{Finds, Gives, ended_as};
+ghost use Rattle.limits.specs.declared.TheConstants.{MAX_FILE_BYTES};
 ghost use Rattle.signal_cli.specs.declared.fault.Fault.TheVariants as fault;
 
 use crate::fault::Fault;
-use certificate_model::MAX_CERTIFICATE_BYTES;
 use ct_base::{Listed, Plan};
 use limits::MAX_FILE_BYTES;
 use lo_program::judge_size;
@@ -38,7 +37,7 @@ pub struct Planned {
 pub fn read_network<F: Shelf>(alloc: Global, shelf: &mut F, name: &str) -> Result<NamedNet, Fault>
     ensures { Finds (λ files outcome. network_in files name.now ≡ outcome) result (F.state shelf.old) (F.state shelf.new) }
 {
-    let content = read_content(alloc, shelf, name, MAX_FILE_BYTES)?;
+    let content = read_content(alloc, shelf, name)?;
     let named = network_from(alloc, content)?;
     Ok(named)
 }
@@ -73,7 +72,7 @@ fn read_plan<F: Shelf>(
     ensures found { Finds (λ files outcome. plan_in named.now files name.now ≡ outcome) result (F.state shelf.old) (F.state shelf.new) }
     ensures admissible { IfOk result (IsAdmissiblePlan named.now.net) }
 {
-    let content = read_content(alloc, shelf, name, MAX_FILE_BYTES)?;
+    let content = read_content(alloc, shelf, name)?;
     let plan = plan_from(alloc, named, content)?;
     Ok(plan)
 }
@@ -112,30 +111,11 @@ pub fn read_sized_planned<F: Shelf>(
     Ok(Planned { named, plan })
 }
 
-/// What a file holds as a certificate.
-pub fn read_certificate<F: Shelf>(
-    alloc: Global,
-    shelf: &mut F,
-    name: &str,
-) -> Result<Content, Fault>
-    ensures found { Finds (λ files outcome. content_in files name.now MAX_CERTIFICATE_BYTES ≡ outcome) result (F.state shelf.old) (F.state shelf.new) }
-    ensures within { IfOk result (IsWithin MAX_CERTIFICATE_BYTES) }
+/// What a file of a network or of a plan holds.
+fn read_content<F: Shelf>(alloc: Global, shelf: &mut F, name: &str) -> Result<Content, Fault>
+    ensures { Finds (λ files outcome. content_in files name.now MAX_FILE_BYTES ≡ outcome) result (F.state shelf.old) (F.state shelf.new) }
 {
-    read_content(alloc, shelf, name, MAX_CERTIFICATE_BYTES)
-}
-
-/// What a file holds of which at most so many bytes are wanted.
-fn read_content<F: Shelf>(
-    alloc: Global,
-    shelf: &mut F,
-    name: &str,
-    limit: u64,
-) -> Result<Content, Fault>
-    requires { limit ≤ 134217728 }
-    ensures found { Finds (λ files outcome. content_in files name.now limit ≡ outcome) result (F.state shelf.old) (F.state shelf.new) }
-    ensures within { IfOk result (IsWithin limit) }
-{
-    match read_all(alloc, shelf, name, limit) {
+    match read_all(alloc, shelf, name, MAX_FILE_BYTES) {
         Ok(bytes) => Ok(Content::Whole(Listed::of(bytes))),
         Err(end) => ended(end),
     }

@@ -1,6 +1,7 @@
 //! The planner of signal timings: reads the words of the command line and runs the command that they name.
 #![tactic(auto)]
 
+mod certificate;
 mod command;
 mod commands;
 mod fault;

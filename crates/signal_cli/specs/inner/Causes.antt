@@ -1,5 +1,5 @@
 -- How what a part of a command found stands to what the files deserve, and what was done with it.
-use Rattle.std.specs.Prelude.{◌≡◌, ℕ, ◌≤◌, ◌⊎◌, length, Result, Ok, Err}
+use Rattle.std.specs.Prelude.{◌≡◌, ℕ, ◌⊎◌, Result, Ok, Err}
 use Rattle.shelf_io.specs.Told.{Files, ShelfState, StopsInText, read_failed, with_taken}
 use Rattle.shelf_io.specs.declared.whole_file.ReadAll.{ReadAll}
 use Rattle.shelf_io.specs.declared.whole_file.ReadAll.TheVariants as ended
@@ -8,13 +8,8 @@ use Rattle.signal_cli.specs.Worlds.{ForFiles, ForTold, PutsAsFar, StopsInFiles, 
 use Rattle.signal_cli.specs.declared.fault.Fault.{Fault}
 use Rattle.signal_cli.specs.declared.fault.Fault.TheVariants.{Read, Memory}
 use Rattle.signal_cli.specs.declared.input.Content.{Content}
-use Rattle.signal_cli.specs.declared.input.Content.TheVariants.{TooLong, Whole}
+use Rattle.signal_cli.specs.declared.input.Content.TheVariants.{TooLong}
 use Rattle.signal_cli.specs.declared.reply.Reply.{Reply}
-
--- a file that was seen whole has at most so many bytes
-abbrev pub IsWithin : ℕ → Content → Type 0
-IsWithin limit TooLong = Unit {0}
-IsWithin limit (Whole bytes) = length bytes ≤ limit
 
 -- what comes of a reading that ended before the whole file was read
 abbrev pub ended_as : ReadAll → Result Content Fault

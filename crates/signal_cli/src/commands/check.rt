@@ -1,21 +1,20 @@
 //! `check NET CERT`: whether a certificate shows its bound for a network.
 
-ghost use Rattle.std.specs.Prelude.{◌≡◌, [], false, IfOk};
+ghost use Rattle.std.specs.Prelude.{◌≡◌, false, IfOk};
 ghost use Rattle.std.specs.Str.{bytes_eq};
-ghost use Rattle.ct_base.specs.Validity.{IsValid};
-ghost use Rattle.lo_program.specs.Compiled.{size_faults};
-ghost use Rattle.certificate_model.specs.declared.constants.TheConstants.{MAX_CERTIFICATE_BYTES};
 ghost use Rattle.signal_cli.specs.Answers as said;
 ghost use Rattle.signal_cli.specs.BoundLines as bound_lines;
-ghost use Rattle.signal_cli.specs.Answers.{CheckGives, IsJudged};
-ghost use Rattle.signal_cli.specs.inner.Causes.{Finds, IsWithin};
+ghost use Rattle.signal_cli.specs.Answers.{CheckGives};
+ghost use Rattle.signal_cli.specs.inner.Causes.{Finds};
+ghost use Rattle.signal_cli.specs.inner.Judgements.{answer_to};
 
-use crate::commands::rejection::{judge, long, rejected};
+use crate::certificate::{Judgement, judge_certificate};
+use crate::commands::rejection::{long, rejected};
 use crate::fault::Fault;
-use crate::input::{Content, read_certificate, read_sized};
+use crate::input::read_sized;
 use crate::reply::Reply;
 use cert_check::Verdict;
-use ct_base::{Memory, Net, Text};
+use ct_base::Text;
 use shelf_io::Shelf;
 use std::alloc::{AllocError, Global};
 
@@ -30,23 +29,19 @@ pub fn check<F: Shelf>(
     ensures { Finds (CheckGives network.now certificate.now) result (F.state shelf.old) (F.state shelf.new) }
 {
     let named = read_sized(alloc, shelf, network)?;
-    let content = read_certificate(alloc, shelf, certificate)?;
-    let reply = reply_to(alloc, named.net(), &content)?;
+    let judgement = judge_certificate(alloc, shelf, certificate, named.net())?;
+    let reply = reply_to(alloc, judgement)?;
     Ok(reply)
 }
 
-/// The reply to what a file holds as a certificate.
-fn reply_to(alloc: Global, net: &Net, content: &Content) -> Result<Reply, Memory>
-    requires valid { IsValid net.now }
-    requires small { size_faults net.now ≡ [] }
-    requires within { IsWithin MAX_CERTIFICATE_BYTES content.now }
-    ensures { IfOk result (IsJudged net.now said.check_reply content.now) }
+/// The reply to what a file comes to as a certificate.
+fn reply_to(alloc: Global, judgement: Judgement) -> Result<Reply, AllocError>
+    ensures { IfOk result (λ reply. reply ≡ answer_to said.check_reply judgement) }
 {
-    let reply = match content {
-        Content::Whole(bytes) => reply_of(alloc, judge(alloc, net, bytes.as_slice())?)?,
-        Content::TooLong => long(alloc)?,
-    };
-    Ok(reply)
+    match judgement {
+        Judgement::Whole(verdict) => reply_of(alloc, verdict),
+        Judgement::TooLong => long(alloc),
+    }
 }
 
 /// The reply to a verdict.

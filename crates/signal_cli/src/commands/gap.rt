@@ -1,22 +1,21 @@
 //! `gap NET PLAN CERT`: how far the delay of a plan is above the bound of a certificate.
 
-ghost use Rattle.std.specs.Prelude.{◌≡◌, ◌<◌, ◌^◌, ◌≤ℤ◌, pos, [], false, IfOk, string_bytes};
-ghost use Rattle.std.specs.Prelude.{ℤ, Ok};
+ghost use Rattle.std.specs.Prelude.{◌≡◌, ◌<◌, ◌^◌, ℤ, ◌≤ℤ◌, pos, false, IfOk, string_bytes};
 ghost use Rattle.std.specs.Str.{bytes_eq};
-ghost use Rattle.ct_base.specs.Validity.{IsValid};
 ghost use Rattle.traffic_model.specs.Runs.{IsAdmissiblePlan};
-ghost use Rattle.lo_program.specs.Compiled.{size_faults};
 ghost use Rattle.certificate_model.specs.Leaves.{plan_delay};
-ghost use Rattle.certificate_model.specs.declared.constants.TheConstants.{MAX_CERTIFICATE_BYTES};
 ghost use Rattle.certificate_model.specs.declared.verdict.Verdict.TheVariants.{Accepted};
 ghost use Rattle.signal_cli.specs.Answers as said;
 ghost use Rattle.signal_cli.specs.BoundLines as bound_lines;
-ghost use Rattle.signal_cli.specs.Answers.{GapGives, IsJudged};
-ghost use Rattle.signal_cli.specs.inner.Causes.{Finds, IsWithin};
+ghost use Rattle.signal_cli.specs.Answers.{GapGives};
+ghost use Rattle.signal_cli.specs.inner.Causes.{Finds};
+ghost use Rattle.signal_cli.specs.inner.Judgements.{answer_to};
+ghost use Rattle.signal_cli.specs.declared.certificate.Judgement.TheVariants.{Whole};
 
-use crate::commands::rejection::{judge, long, rejected};
+use crate::certificate::{Judgement, judge_certificate};
+use crate::commands::rejection::{long, rejected};
 use crate::fault::Fault;
-use crate::input::{Content, Planned, read_certificate, read_sized_planned};
+use crate::input::{Planned, read_sized_planned};
 use crate::reply::Reply;
 use cell_replay::delay;
 use cert_check::Verdict;
@@ -39,24 +38,20 @@ pub fn gap<F: Shelf>(
     ensures { Finds (GapGives network.now plan.now certificate.now) result (F.state shelf.old) (F.state shelf.new) }
 {
     let planned = read_sized_planned(alloc, shelf, network, plan)?;
-    let content = read_certificate(alloc, shelf, certificate)?;
-    let reply = reply_to(alloc, &planned, &content)?;
+    let judgement = judge_certificate(alloc, shelf, certificate, planned.named.net())?;
+    let reply = reply_to(alloc, &planned, judgement)?;
     Ok(reply)
 }
 
-/// The reply for a plan to what a file holds as a certificate.
-fn reply_to(alloc: Global, planned: &Planned, content: &Content) -> Result<Reply, Memory>
-    requires small { size_faults planned.now.named.net ≡ [] }
+/// The reply for a plan to what a file comes to as a certificate.
+fn reply_to(alloc: Global, planned: &Planned, judgement: Judgement) -> Result<Reply, Memory>
     requires admissible { IsAdmissiblePlan planned.now.named.net planned.now.plan }
-    requires within { IsWithin MAX_CERTIFICATE_BYTES content.now }
-    ensures { IfOk result (IsJudged planned.now.named.net (said.gap_reply planned.now) content.now) }
+    requires safe { (bound : ℤ) → judgement ≡ Whole (Accepted bound) → bound ≤ℤ plan_delay planned.now.named.net planned.now.plan }
+    ensures { IfOk result (λ reply. reply ≡ answer_to (said.gap_reply planned.now) judgement) }
 {
-    match content {
-        Content::Whole(bytes) => {
-            let verdict = judge(alloc, planned.named.net(), bytes.as_slice())?;
-            reply_of(alloc, planned, verdict)
-        }
-        Content::TooLong => Ok(long(alloc)?),
+    match judgement {
+        Judgement::Whole(verdict) => reply_of(alloc, planned, verdict),
+        Judgement::TooLong => Ok(long(alloc)?),
     }
 }
 

@@ -1,38 +1,13 @@
-//! What a certificate comes to, and the replies to one that is not accepted.
+//! The replies to a certificate that is not accepted.
 
-ghost use Rattle.std.specs.Prelude.{◌≡◌, ◌≤◌, [], IfOk, length, string_bytes};
-ghost use Rattle.std.specs.Prelude.{ℤ, ◌≤ℤ◌, Ok};
-ghost use Rattle.ct_base.specs.Validity.{IsValid};
-ghost use Rattle.ct_base.specs.declared.plan.Plan.{Plan};
-ghost use Rattle.traffic_model.specs.Runs.{IsAdmissiblePlan};
-ghost use Rattle.lo_program.specs.Compiled.{size_faults};
-ghost use Rattle.certificate_model.specs.Leaves.{plan_delay};
-ghost use Rattle.certificate_model.specs.Verdicts.{IsVerdict};
-ghost use Rattle.certificate_model.specs.declared.constants.TheConstants.{MAX_CERTIFICATE_BYTES};
-ghost use Rattle.certificate_model.specs.declared.verdict.Verdict.TheVariants.{Accepted};
+ghost use Rattle.std.specs.Prelude.{◌≡◌, IfOk, string_bytes};
 ghost use Rattle.signal_cli.specs.Answers as said;
 ghost use Rattle.signal_cli.specs.RejectionLines as rejection_lines;
 
 use crate::reply::Reply;
-use cert_check::{Verdict, Why, verdict};
-use ct_base::{Listed, Memory, Net, Text};
-use lo_program::CompileFault;
+use cert_check::Why;
+use ct_base::Text;
 use std::alloc::{AllocError, Global};
-
-/// The verdict on the text of a certificate, for a network whose program is not too large.
-pub fn judge(alloc: Global, net: &Net, bytes: &[u8]) -> Result<Verdict, Memory>
-    requires valid { IsValid net.now }
-    requires small { size_faults net.now ≡ [] }
-    requires within { length bytes.now ≤ MAX_CERTIFICATE_BYTES }
-    ensures value { IfOk result (IsVerdict net.now bytes.now) }
-    ensures safe { (bound : ℤ) (plan : Plan) → result ≡ Ok (Accepted bound) → IsAdmissiblePlan net.now plan → bound ≤ℤ plan_delay net.now plan }
-{
-    match verdict(alloc, net, bytes) {
-        Ok(verdict) => Ok(verdict),
-        Err(CompileFault::TooLarge(_)) => unreachable!(),
-        Err(CompileFault::Memory) => Err(Memory),
-    }
-}
 
 /// The reply to a certificate that is longer than its limit.
 #[tactic(auto, unfolding(crate::specs::RejectionLines::long_lines))]

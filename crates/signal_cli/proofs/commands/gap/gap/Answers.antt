@@ -7,6 +7,7 @@ use Rattle.signal_cli.specs.declared.fault.Fault.{Fault}
 use Rattle.signal_cli.specs.declared.input.Content.{Content}
 use Rattle.signal_cli.specs.declared.input.Planned.{Planned}
 use Rattle.signal_cli.specs.declared.reply.Reply.{Reply}
+use Rattle.signal_cli.proofs.Pieces.{is_judged}
 use Rattle.signal_cli.proofs.Reading.{apart_from, certificate_found, differ_too, fault_follows, found_fault, reply_follows, sized_planned_beside}
 use Rattle.signal_cli.proofs.commands.gap.gap.Goals as goal
 
@@ -28,19 +29,19 @@ returns-in_err-planned g c =
     rw p.1 (rw p.2 (fault_follows (read c.args.network.now c.args.plan.now c.args.certificate.now) IsDue c.in_err-planned.field-0.0 _ _
     (found_fault (λ files. sized_planned_in files c.args.network.now c.args.plan.now) (λ files (planned : Planned). with_certificate (Ok planned) files c.args.certificate.now) c.in_err-planned.field-0.0 _ _ c.in_err-planned.ensures.found)))
 
-pub returns-in_err-content : goal.returns-in_err-content
-returns-in_err-content g c =
-    let p = err_from_is_err_and c.from_residual-in_err-content.result c.from_residual-in_err-content.ensures.1 in
-    rw p.1 (rw p.2 (fault_follows (read c.args.network.now c.args.plan.now c.args.certificate.now) IsDue c.in_err-content.field-0.0 _ _
-    (certificate_found (λ files. sized_planned_in files c.args.network.now c.args.plan.now) (Apart c.args.network.now c.args.plan.now) (sized_planned_beside c.args.network.now c.args.plan.now c.requires.plan) c.args.certificate.now (differ_too c.args.network.now c.args.certificate.now c.requires.first, differ_too c.args.plan.now c.args.certificate.now c.requires.second) c.in_ok-planned.planned (Err c.in_err-content.field-0.0) _ _ _ c.in_ok-planned.ensures.found c.in_err-content.ensures.found)))
+pub returns-in_err-judgement : goal.returns-in_err-judgement
+returns-in_err-judgement g c =
+    let p = err_from_is_err_and c.from_residual-in_err-judgement.result c.from_residual-in_err-judgement.ensures.1 in
+    rw p.1 (rw p.2 (fault_follows (read c.args.network.now c.args.plan.now c.args.certificate.now) IsDue c.in_err-judgement.field-0.0 _ _
+    (certificate_found (λ files. sized_planned_in files c.args.network.now c.args.plan.now) (Apart c.args.network.now c.args.plan.now) (sized_planned_beside c.args.network.now c.args.plan.now c.requires.plan) c.args.certificate.now (differ_too c.args.network.now c.args.certificate.now c.requires.first, differ_too c.args.plan.now c.args.certificate.now c.requires.second) c.in_ok-planned.planned (Err c.in_err-judgement.field-0.0) _ _ _ c.in_ok-planned.ensures.found c.in_err-judgement.ensures.found)))
 
 pub returns-in_err-reply : goal.returns-in_err-reply
 returns-in_err-reply g c =
     let p = err_from_is_err_and c.from_residual-in_err-reply.result c.from_residual-in_err-reply.ensures.1 in
-    rw p.1 (rw p.2 (certificate_found (λ files. sized_planned_in files c.args.network.now c.args.plan.now) (Apart c.args.network.now c.args.plan.now) (sized_planned_beside c.args.network.now c.args.plan.now c.requires.plan) c.args.certificate.now (differ_too c.args.network.now c.args.certificate.now c.requires.first, differ_too c.args.plan.now c.args.certificate.now c.requires.second) c.in_ok-planned.planned (Ok c.in_ok-content.content) _ _ _ c.in_ok-planned.ensures.found c.in_ok-content.ensures.found).0)
+    rw p.1 (rw p.2 (certificate_found (λ files. sized_planned_in files c.args.network.now c.args.plan.now) (Apart c.args.network.now c.args.plan.now) (sized_planned_beside c.args.network.now c.args.plan.now c.requires.plan) c.args.certificate.now (differ_too c.args.network.now c.args.certificate.now c.requires.first, differ_too c.args.plan.now c.args.certificate.now c.requires.second) c.in_ok-planned.planned (Ok c.in_ok-judgement.ensures.found.0) _ _ _ c.in_ok-planned.ensures.found c.in_ok-judgement.ensures.found.1).0)
 
 pub returns : goal.returns
 returns g c =
-    reply_follows (read c.args.network.now c.args.plan.now c.args.certificate.now) IsDue (c.in_ok-planned.planned, c.in_ok-content.content) c.in_ok-reply.reply _ _
-    (certificate_found (λ files. sized_planned_in files c.args.network.now c.args.plan.now) (Apart c.args.network.now c.args.plan.now) (sized_planned_beside c.args.network.now c.args.plan.now c.requires.plan) c.args.certificate.now (differ_too c.args.network.now c.args.certificate.now c.requires.first, differ_too c.args.plan.now c.args.certificate.now c.requires.second) c.in_ok-planned.planned (Ok c.in_ok-content.content) _ _ _ c.in_ok-planned.ensures.found c.in_ok-content.ensures.found)
-    c.in_ok-reply.ensures
+    reply_follows (read c.args.network.now c.args.plan.now c.args.certificate.now) IsDue (c.in_ok-planned.planned, c.in_ok-judgement.ensures.found.0) c.in_ok-reply.reply _ _
+    (certificate_found (λ files. sized_planned_in files c.args.network.now c.args.plan.now) (Apart c.args.network.now c.args.plan.now) (sized_planned_beside c.args.network.now c.args.plan.now c.requires.plan) c.args.certificate.now (differ_too c.args.network.now c.args.certificate.now c.requires.first, differ_too c.args.plan.now c.args.certificate.now c.requires.second) c.in_ok-planned.planned (Ok c.in_ok-judgement.ensures.found.0) _ _ _ c.in_ok-planned.ensures.found c.in_ok-judgement.ensures.found.1)
+    (rw c.in_ok-reply.ensures (is_judged c.in_ok-planned.planned.named.net (gap_reply c.in_ok-planned.planned) c.in_ok-judgement.ensures.found.0 c.in_ok-judgement.judgement (rw c.net.ensures.value at c.in_ok-judgement.ensures.found.2)))
