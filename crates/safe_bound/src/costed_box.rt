@@ -204,7 +204,7 @@ fn cost_of(program: &Program, with_cost: bool, j: u32) -> i64
 
 /// The least that a column comes to within its bounds, where one unit of it costs so much: at its low if that costs something, at its
 /// high if it saves something.
-fn column_value(bounds: &Bounds, cost: i128, j: u32) -> i128
+pub fn column_value(bounds: &Bounds, cost: i128, j: u32) -> i128
     requires there { j < length bounds.now.lows }
     requires few { unsigned_abs cost < 2 ^ 80 }
     ensures value { result ≡ column_value bounds.now cost j }

@@ -6,6 +6,6 @@ mod costed_box;
 mod lawful;
 mod priced;
 
-pub use costed_box::CostedBox;
+pub use costed_box::{CostedBox, column_value};
 pub use lawful::{are_pairs, are_prices};
-pub use priced::value;
+pub use priced::{reduced_cost, value};

@@ -64,7 +64,7 @@ fn columns_value(program: &Program, bounds: &Bounds, prices: &[i64], with_cost: 
 }
 
 /// The reduced cost of a column: what one unit of it costs, less what its rows pay for it.
-fn reduced_cost(program: &Program, prices: &[i64], with_cost: bool, j: u32) -> i128
+pub fn reduced_cost(program: &Program, prices: &[i64], with_cost: bool, j: u32) -> i128
     requires there { j < length program.now.columns }
     requires lawful { ArePrices program.now.rows prices.now }
     ensures value { result ≡ reduced_cost program.now with_cost (price_at prices.now) j }

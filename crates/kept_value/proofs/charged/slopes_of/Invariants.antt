@@ -1,0 +1,13 @@
+use Rattle.std.proofs.Common.{◌*◌, ◌≤◌, ◌^◌, length, take}
+use Rattle.std.specs.Prelude.{unsigned_abs}
+use Rattle.kept_value.specs.Kept.{reduced_at}
+use Rattle.kept_value.specs.inner.Charged.{IsSteepest}
+use Rattle.kept_value.proofs.charged.slopes_of.Given as goal
+
+abbrev pub invariant-loop-term : goal.invariant-loop-term
+invariant-loop-term l = record {
+  up : IsSteepest (length l.reduced) l.bounds (reduced_at l.reduced) (take l.term-index l.terms) l.price l.up;
+  down : IsSteepest (length l.reduced) l.bounds (reduced_at l.reduced) (take l.term-index l.terms) l.price l.down;
+  few_up : unsigned_abs l.up ≤ 2 ^ 40 * l.term-index;
+  few_down : unsigned_abs l.down ≤ 2 ^ 40 * l.term-index;
+}
