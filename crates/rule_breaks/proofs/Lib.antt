@@ -1,0 +1,4 @@
+pub mod WindowLaws
+pub mod MetRows
+pub mod ShownWords
+pub mod PlanRows
