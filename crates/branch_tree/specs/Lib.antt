@@ -1,0 +1,3 @@
+pub mod OpenTree
+pub mod Boxes
+pub mod inner
