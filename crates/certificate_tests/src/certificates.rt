@@ -1,7 +1,7 @@
 //! Verdicts on certificates of two networks that were worked by hand (docs/certificate.md, "Worked by hand").
 
 use crate::networks::{crossing, one_cell};
-use cert_check::{MAX_CERTIFICATE_BYTES, Verdict, Why, verdict};
+use cert_check::{Checker, CompileFault, MAX_CERTIFICATE_BYTES, Verdict, Why, verdict};
 use ct_base::{Memory, Net, valid};
 use std::alloc::Global;
 use std::process::Abort;
@@ -105,6 +105,59 @@ fn try_damages(
             why: *why,
         };
         try_verdict(rt, alloc, net, text.as_slice(), wanted);
+    }
+    Ok(())
+}
+
+/// The verdict on a text that comes in pieces of so many bytes.
+fn verdict_in_pieces(
+    rt: &impl Abort,
+    alloc: Global,
+    net: &Net,
+    text: &[u8],
+    size: usize,
+) -> Result<Verdict, CompileFault> {
+    assert!(rt; valid(net));
+    assert!(rt; 0 < size);
+    let mut checker = Checker::start(alloc, net)?;
+    for piece in text.chunks(size) {
+        assert!(rt; checker.taken() <= 1_048_576);
+        assert!(rt; piece.len() <= 1_048_576);
+        checker.feed(net, piece)?;
+    }
+    assert_eq!(rt; checker.taken(), text.len() as u64);
+    Ok(checker.finish())
+}
+
+/// A line of the crossing's certificate is another, and the text, which comes in pieces, has a verdict.
+fn try_pieces(
+    rt: &impl Abort,
+    alloc: Global,
+    number: usize,
+    other: &str,
+    wanted: Verdict,
+) -> Result<(), Memory> {
+    let net = crossing(alloc)?;
+    let text = damaged(alloc, CROSSING, number, other)?;
+    for size in [1, 2, 7, 65_536] {
+        assert_eq!(rt;
+            verdict_in_pieces(rt, alloc, &net, text.as_slice(), size).ok(),
+            Some(wanted)
+        );
+    }
+    Ok(())
+}
+
+#[test]
+fn pieces_have_the_verdict_of_the_whole(rt: HostRuntime) -> Result<(), Fail> {
+    let alloc = rt.alloc();
+    try_pieces(&rt, alloc, 0, "", Verdict::Accepted(1))?;
+    for (number, other, line, why) in OF_CROSSING {
+        let wanted = Verdict::Rejected {
+            line: *line,
+            why: *why,
+        };
+        try_pieces(&rt, alloc, *number, other, wanted)?;
     }
     Ok(())
 }

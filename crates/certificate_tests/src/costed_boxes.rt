@@ -30,7 +30,7 @@ const NARROWED: [Wanted; 4] = [
 
 /// Column 0 of 0 to 2 that costs 1, column 1 of 0 to 10 that costs 2, a row that asks for at least 3 of both, and one that asks for at
 /// least 1 of column 1.
-fn two_rows(alloc: Global) -> Result<Program, Memory> {
+pub fn two_rows(alloc: Global) -> Result<Program, Memory> {
     let mut builder = Builder::new(alloc);
     builder.col(0, 2, 1)?;
     builder.col(0, 10, 2)?;

@@ -4,6 +4,8 @@
 #[cfg(test)]
 mod bits_of_plans;
 #[cfg(test)]
+mod certificate_pieces;
+#[cfg(test)]
 mod certificate_texts;
 #[cfg(test)]
 mod certificates;
@@ -11,6 +13,8 @@ mod certificates;
 mod costed_boxes;
 #[cfg(test)]
 mod gaps;
+#[cfg(test)]
+mod kept_values;
 #[cfg(test)]
 mod networks;
 #[cfg(test)]
