@@ -1,20 +1,21 @@
 -- Laws of what columns come to while the terms of a row pay more for them: a term more, no term, and how steeply it changes with the price.
-use Rattle.std.proofs.Common.{◌≡◌, ◌⊎◌, inl, inr, ℕ, zero, suc, ◌+◌, ◌<◌, ◌≤◌, List, [], length, get_or, set, take, ap, ◌∙◌, sym, arith, get_or-set_other, get_or-set_same}
-use Rattle.std.specs.Prelude.{ℤ, pos, negsuc, ◌+ℤ◌, ◌-ℤ◌, ◌*ℤ◌, ◌≤ℤ◌}
+use Rattle.std.proofs.Common.{◌≡◌, ◌⊎◌, inl, inr, Bool, true, false, cond, All, refl, ℕ, zero, suc, ◌+◌, ◌<◌, ◌≤◌, List, [], length, get_or, set, take, ap, ◌∙◌, sym, arith, get_or-set_other, get_or-set_same}
+use Rattle.std.specs.Prelude.{ℤ, not, pos, negsuc, ◌+ℤ◌, ◌-ℤ◌, ◌*ℤ◌, ◌≤ℤ◌}
 use Rattle.std.specs.Int.{int_min}
+use Rattle.std.proofs.Math.Bool.{beq}
 use Rattle.std.proofs.Math.IntN.{*ℤ_comm, zero-*ℤ}
 use Rattle.std.proofs.lemmas.Bool.{cases_eq}
 use Rattle.std.proofs.lemmas.Int.{clamps, ints}
 use Rattle.std.proofs.lemmas.List.{get_or-take, get_or_default, length-take}
 use Rattle.listed.proofs.WholeSums.{times_sum, whole_sum_below-same}
 use Rattle.sparse_program.specs.Box.{Ranges, high_of, low_of}
-use Rattle.sparse_program.specs.Terms.{Rises, coefficient}
-use Rattle.sparse_program.proofs.TermLaws.{coefficient-none, sum_times, times_swap}
+use Rattle.sparse_program.specs.Terms.{Rises, coefficient, terms_sum}
+use Rattle.sparse_program.proofs.TermLaws.{coefficient-none, coefficient-term, sum_times, terms_sum-entries, times_swap}
 use Rattle.certificate_model.specs.Value.{column_value}
 use Rattle.safe_bound.proofs.CostedLaws.{least_at_high, whole_sum_below-changed}
 use Rattle.safe_bound.proofs.PaidLaws.{coefficient-more_other, coefficient-more_same}
-use Rattle.kept_value.specs.Kept.{reduced_at}
-use Rattle.kept_value.specs.inner.Charged.{charged, least_of}
+use Rattle.kept_value.specs.Kept.{best_bound, goes_to_low, reduced_at}
+use Rattle.kept_value.specs.inner.Charged.{charged, least_of, stands_at}
 
 -- ---- one column
 
@@ -49,7 +50,35 @@ column_value-slope box j cost number bound more at least =
     let gone : more *ℤ ((pos 0 -ℤ number *ℤ bound) +ℤ number *ℤ bound) ≡ pos 0 = ap (λ (z : ℤ). more *ℤ z) (omega (arith, ints)) ∙ *ℤ_comm more (pos 0) ∙ zero-*ℤ more in
     omega (arith, ints, there, parts, whole, three, none, gone, least)
 
+-- the test that the code makes is the one of the definition
+pub goes_to_low-tested : (below rises : Bool) → beq below rises ≡ cond rises below (not below)
+goes_to_low-tested true true = refl
+goes_to_low-tested true false = refl
+goes_to_low-tested false true = refl
+goes_to_low-tested false false = refl
+
 -- ---- all columns
+
+-- terms that rise have their coefficients at their numbers
+pub coefficient-here : (terms : List (ℕ × ℤ)) (k : ℕ) (d : ℕ × ℤ) → Rises terms → k < length terms → coefficient terms (get_or terms k d).0 ≡ (get_or terms k d).1
+coefficient-here terms k d rises within =
+    let t : ℕ × ℤ = get_or terms k d in
+    coefficient-term terms k t.0 t.1 rises within (get_or_default terms k (t.0, t.1) d within)
+
+-- where a column of a term stands
+pub stands_at-here : (box : Ranges) (costs : ℕ → ℤ) (terms : List (ℕ × ℤ)) (price cost : ℤ) (rises : Bool) (k : ℕ) (d : ℕ × ℤ) → Rises terms → k < length terms → cost ≡ costs (get_or terms k d).0 -ℤ price *ℤ (get_or terms k d).1 →
+    stands_at box costs terms price rises (get_or terms k d).0 ≡ best_bound box cost (goes_to_low (get_or terms k d).1 rises) (get_or terms k d).0
+stands_at-here box costs terms price cost rises k d rising within is =
+    let t : ℕ × ℤ = get_or terms k d in
+    let here : coefficient terms t.0 ≡ t.1 = coefficient-here terms k d rising within in
+    ap (λ (z : ℤ). best_bound box (costs t.0 -ℤ price *ℤ z) (goes_to_low z rises) t.0) here ∙ ap (λ (z : ℤ). best_bound box z (goes_to_low t.1 rises) t.0) (sym is)
+
+-- sums of terms over values that are the same at their numbers
+pub terms_sum-same : (terms : List (ℕ × ℤ)) (n : ℕ) (x y : ℕ → ℤ) → All (λ (term : ℕ × ℤ). term.0 < n) terms → ((j : ℕ) → j < n → x j ≡ y j) → terms_sum terms x ≡ terms_sum terms y
+terms_sum-same terms n x y there same =
+    terms_sum-entries terms n x there
+    ∙ whole_sum_below-same n (λ j. coefficient terms j *ℤ x j) (λ j. coefficient terms j *ℤ y j) (λ j below. ap (λ (z : ℤ). coefficient terms j *ℤ z) (same j below))
+    ∙ sym (terms_sum-entries terms n y there)
 
 -- terms that rise have no coefficient yet at the number of a later term
 pub coefficient-later : (terms : List (ℕ × ℤ)) (k : ℕ) (d : ℕ × ℤ) → Rises terms → k < length terms → coefficient (take k terms) (get_or terms k d).0 ≡ pos 0

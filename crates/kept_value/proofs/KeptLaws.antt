@@ -1,5 +1,5 @@
 -- Laws of values that are kept: where one price changes, and where one bound does; how great they are.
-use Rattle.std.proofs.Common.{◌≡◌, ◌≢◌, ℕ, ◌*◌, ◌<◌, ◌≤◌, ◌^◌, true, List, length, get_or, ap, ◌∙◌, sym, arith, get_or-set_other, get_or-set_same}
+use Rattle.std.proofs.Common.{◌≡◌, ◌≢◌, Bool, All, ℕ, ◌*◌, ◌<◌, ◌≤◌, ◌^◌, true, List, length, get_or, ap, ◌∙◌, sym, arith, get_or-set_other, get_or-set_same}
 use Rattle.std.specs.Prelude.{ℤ, pos, ◌+ℤ◌, ◌-ℤ◌, ◌*ℤ◌, unsigned_abs, FitsSigned}
 use Rattle.std.specs.Int.{int_min, w64}
 use Rattle.std.proofs.Math.IntN.{*ℤ_comm}
@@ -18,8 +18,10 @@ use Rattle.certificate_model.specs.Value.{column_value, most_price, reduced_cost
 use Rattle.safe_bound.specs.Prices.{ArePrices, price_at}
 use Rattle.safe_bound.proofs.CostedLaws.{column_value-small, cost_counted-small, with_high, with_low, whole_sum_below-changed, whole_sum_below-small}
 use Rattle.safe_bound.proofs.PaidLaws.{coefficient-small}
-use Rattle.kept_value.specs.Kept.{IsKeptOf, IsSlope, Kept, gain_of, reduced_at, repriced}
-use Rattle.kept_value.specs.inner.Charged.{AreModest, IsSteepest, charged, least_of}
+use Rattle.kept_value.specs.Kept.{IsKeptOf, IsSlope, Kept, best_bound, gain_of, goes_to_low, reduced_at, repriced, standing}
+use Rattle.sparse_program.specs.Terms.{terms_sum}
+use Rattle.kept_value.specs.inner.Charged.{AreModest, IsSteepest, charged, least_of, stands_at}
+use Rattle.kept_value.proofs.ChargedLaws.{terms_sum-same}
 
 -- ---- how great they are
 
@@ -159,6 +161,14 @@ IsSlope-charged program box prices costs row by slope are within long steepest o
     let parts : ((other -ℤ by) +ℤ by) *ℤ rhs ≡ (other -ℤ by) *ℤ rhs +ℤ by *ℤ rhs = sum_times (other -ℤ by) by rhs in
     let whole : ((other -ℤ by) +ℤ by) *ℤ rhs ≡ other *ℤ rhs = ap (λ (z : ℤ). z *ℤ rhs) (omega (arith, ints)) in
     omega (arith, ints, parts, whole, times_sum (other -ℤ by) rhs slope, steepest other, gain_of-charged program box prices costs row other are within long, gain_of-charged program box prices costs row by are within long)
+
+-- the sum of the row where its columns stand, by what is kept of them
+pub standing-charged : (program : Parts) (box : Ranges) (prices : List ℤ) (costs : ℕ → ℤ) (row : ℕ) (by : ℤ) (rises : Bool) → AreReduced program prices costs → row < length program.rows → length prices ≡ length program.rows →
+    All (λ (term : ℕ × ℤ). term.0 < length program.columns) (terms_of program.rows row) →
+    terms_sum (terms_of program.rows row) (stands_at box costs (terms_of program.rows row) by rises) ≡ terms_sum (terms_of program.rows row) (standing program box prices row by rises)
+standing-charged program box prices costs row by rises are within long there =
+    terms_sum-same (terms_of program.rows row) (length program.columns) (stands_at box costs (terms_of program.rows row) by rises) (standing program box prices row by rises) there
+    (λ j below. ap (λ (z : ℤ). best_bound box z (goes_to_low (entry program.rows row j) rises) j) (AreReduced-charged program prices costs row by are within long j below))
 
 -- changed prices are kept
 pub IsKeptOf-repriced : (program : Parts) (kept : Kept) (row : ℕ) (by gain : ℤ) (reduced : List ℤ) → IsKeptOf program kept → row < length program.rows → ArePrices program.rows (repriced kept.prices row by) →

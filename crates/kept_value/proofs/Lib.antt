@@ -1,2 +1,3 @@
 pub mod ChargedLaws
 pub mod KeptLaws
+pub mod RepricedLaws

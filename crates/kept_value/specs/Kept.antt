@@ -1,7 +1,9 @@
 -- The value of prices over a box, and what is kept of it where prices and bounds change (docs/certificate.md, "Value").
-use Rattle.std.specs.Prelude.{◌≡◌, ℕ, ◌<◌, ℤ, pos, ◌+ℤ◌, ◌-ℤ◌, ◌*ℤ◌, ◌≤ℤ◌, true, List, length, slice_index_or, slice_set}
-use Rattle.sparse_program.specs.Box.{Ranges}
-use Rattle.sparse_program.specs.Program.{Parts}
+use Rattle.std.specs.Prelude.{◌≡◌, ℕ, ◌<◌, ℤ, pos, ◌+ℤ◌, ◌-ℤ◌, ◌*ℤ◌, ◌≤ℤ◌, int_lt, Bool, true, not, ◌&&◌, if◌then◌else◌, List, length, slice_index_or, slice_set}
+use Rattle.std.specs.Ordering.{int_eq}
+use Rattle.sparse_program.specs.Box.{Ranges, high_of, low_of}
+use Rattle.sparse_program.specs.Program.{Parts, entry, row_of, terms_of}
+use Rattle.sparse_program.specs.Terms.{terms_sum}
 use Rattle.certificate_model.specs.Value.{reduced_cost, value}
 use Rattle.safe_bound.specs.Prices.{ArePrices, price_at}
 
@@ -36,3 +38,24 @@ gain_of program box prices row by = value program true box (price_at (repriced p
 -- where the price of a row is changed by a number, no other change of it raises the value by more than along a straight line of this slope
 abbrev pub IsSlope : Parts → Ranges → List ℤ → ℕ → ℤ → ℤ → Type 0
 IsSlope program box prices row by slope = (other : ℤ) → gain_of program box prices row other ≤ℤ (gain_of program box prices row by +ℤ (other -ℤ by) *ℤ slope)
+
+-- the bound at which a column comes to its least where one unit of it costs so much; where that is nothing, each of the two is one
+abbrev pub best_bound : Ranges → ℤ → Bool → ℕ → ℤ
+best_bound box cost low_if_both j =
+    if int_lt (pos 0) cost then low_of box j else (if int_eq cost (pos 0) && low_if_both then low_of box j else high_of box j)
+
+-- a column that costs nothing comes to its low as the price of a row with this coefficient at it rises, or as that falls
+abbrev pub goes_to_low : ℤ → Bool → Bool
+goes_to_low coefficient rises = if rises then int_lt coefficient (pos 0) else not (int_lt coefficient (pos 0))
+
+-- where the price of a row is changed by a number: the bound at which a column comes to its least, and still does as that price rises
+-- further, or as it falls
+abbrev pub standing : Parts → Ranges → List ℤ → ℕ → ℤ → Bool → ℕ → ℤ
+standing program box prices row by rises j =
+    best_bound box (reduced_cost program true (price_at (repriced prices row by)) j) (goes_to_low (entry program.rows row j) rises) j
+
+-- how steeply the value rises with that price as it rises further, or as it falls: the right side of the row, less its sum where columns
+-- stand so
+abbrev pub slope_of : Parts → Ranges → List ℤ → ℕ → ℤ → Bool → ℤ
+slope_of program box prices row by rises =
+    (row_of program.rows row).rhs -ℤ terms_sum (terms_of program.rows row) (standing program box prices row by rises)

@@ -1,12 +1,12 @@
 //! What columns come to where a row pays more for them, and how steeply that changes with the price of the row.
 
-ghost use Rattle.std.specs.Prelude.{◌≡◌, ◌⊎◌, ℕ, ◌*◌, ◌<◌, ◌≤◌, ◌^◌, ℤ, ◌+ℤ◌, ◌-ℤ◌, ◌*ℤ◌, ◌≤ℤ◌, length, slice_set, unsigned_abs};
+ghost use Rattle.std.specs.Prelude.{◌≡◌, ◌⊎◌, ℕ, ◌*◌, ◌<◌, ◌≤◌, ◌^◌, ℤ, ◌+ℤ◌, ◌-ℤ◌, ◌*ℤ◌, ◌≤ℤ◌, pos, true, false, length, slice_set, unsigned_abs};
 ghost use Rattle.sparse_program.specs.Box.{high_of, low_of};
-ghost use Rattle.sparse_program.specs.Terms.{AreTerms, IsSmall, coefficient};
+ghost use Rattle.sparse_program.specs.Terms.{AreTerms, IsSmall, coefficient, terms_sum};
 ghost use Rattle.sparse_program.specs.declared.limits.TheConstants.{MAX_TERMS};
 ghost use Rattle.certificate_model.specs.Value.{column_value, most_price};
-ghost use Rattle.kept_value.specs.Kept.{reduced_at};
-ghost use Rattle.kept_value.specs.inner.Charged.{AreModest, IsSteepest, charged, least_of};
+ghost use Rattle.kept_value.specs.Kept.{best_bound, goes_to_low, reduced_at};
+ghost use Rattle.kept_value.specs.inner.Charged.{AreModest, IsSteepest, charged, least_of, stands_at};
 
 use safe_bound::column_value;
 use sparse_program::Bounds;
@@ -53,6 +53,7 @@ fn rise(bounds: &Bounds, j: u32, before: i128, after: i128) -> i128
 /// The bound of a column at which it comes to its least, where one unit of it costs so much: its low or its high if both do.
 fn best_bound(bounds: &Bounds, j: u32, cost: i128, low_if_both: bool) -> i64
     requires there { j < length bounds.now.lows }
+    ensures value { result ≡ best_bound bounds.now cost low_if_both j }
     ensures bound { (result ≡ low_of bounds.now j) ⊎ (result ≡ high_of bounds.now j) }
     ensures least { column_value bounds.now cost j ≡ cost *ℤ result }
     ensures small { IsSmall result }
@@ -71,6 +72,7 @@ fn best_bound(bounds: &Bounds, j: u32, cost: i128, low_if_both: bool) -> i64
 fn slope(bounds: &Bounds, j: u32, cost: i128, coefficient: i64, rises: bool) -> i64
     requires there { j < length bounds.now.lows }
     requires coefficient { IsSmall coefficient }
+    ensures value { result ≡ pos 0 -ℤ coefficient *ℤ best_bound bounds.now cost (goes_to_low coefficient rises) j }
     ensures slope { (more : ℤ) → column_value bounds.now (cost -ℤ more *ℤ coefficient) j ≤ℤ (column_value bounds.now cost j +ℤ more *ℤ result) }
     ensures small { unsigned_abs result ≤ 2 ^ 40 }
 {
@@ -135,6 +137,8 @@ pub(crate) fn slopes_of(
     requires price { unsigned_abs price ≤ 2 * most_price }
     requires columns { length bounds.now.lows ≡ length reduced.now }
     requires modest { AreModest reduced.now }
+    ensures rising { result.up ≡ pos 0 -ℤ terms_sum terms.now (stands_at bounds.now (reduced_at reduced.now) terms.now price true) }
+    ensures falling { result.down ≡ pos 0 -ℤ terms_sum terms.now (stands_at bounds.now (reduced_at reduced.now) terms.now price false) }
     ensures up { IsSteepest (length reduced.now) bounds.now (reduced_at reduced.now) terms.now price result.up }
     ensures down { IsSteepest (length reduced.now) bounds.now (reduced_at reduced.now) terms.now price result.down }
     ensures small { (unsigned_abs result.up ≤ 2 ^ 46) × (unsigned_abs result.down ≤ 2 ^ 46) }

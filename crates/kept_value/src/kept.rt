@@ -1,6 +1,6 @@
 //! The value of prices over a box, kept under change.
 
-ghost use Rattle.std.specs.Prelude.{◌≡◌, ℕ, ◌*◌, ◌<◌, ◌≤◌, ◌^◌, ℤ, ◌+ℤ◌, ◌-ℤ◌, ◌*ℤ◌, ◌≤ℤ◌, true, IfOk, length, slice_set, unsigned_abs};
+ghost use Rattle.std.specs.Prelude.{◌≡◌, ℕ, ◌*◌, ◌<◌, ◌≤◌, ◌^◌, ℤ, ◌+ℤ◌, ◌-ℤ◌, ◌*ℤ◌, ◌≤ℤ◌, true, false, IfOk, length, slice_set, unsigned_abs};
 ghost use Rattle.sparse_program.specs.Box.{high_of, low_of};
 ghost use Rattle.sparse_program.specs.Program.{row_of, terms_of};
 ghost use Rattle.sparse_program.specs.Terms.{AreTerms, IsSmall};
@@ -8,7 +8,9 @@ ghost use Rattle.sparse_program.specs.declared.limits.TheConstants.{MAX_TERMS};
 ghost use Rattle.certificate_model.specs.Value.{column_value, most_price, reduced_cost};
 ghost use Rattle.safe_bound.specs.Prices.{ArePrices, price_at};
 ghost use Rattle.kept_value.specs.inner.Charged.{AreModest};
-ghost use Rattle.kept_value.specs.Kept.{IsKeptOf, IsSlope, gain_of, reduced_at, repriced};
+ghost use Rattle.kept_value.specs.Kept.{IsKeptOf, IsSlope, gain_of, reduced_at, repriced, slope_of};
+
+mod prices;
 
 use crate::charged::{Slopes, charge, gain, payment, slopes_of};
 use safe_bound::{column_value, reduced_cost, value};
@@ -117,6 +119,8 @@ impl KeptValue {
         requires of { IsKeptOf program.now self.now }
         requires there { row < length program.now.rows }
         requires few { unsigned_abs by ≤ 2 * most_price }
+        ensures rising { result.up ≡ slope_of program.now self.now.box self.now.prices row by true }
+        ensures falling { result.down ≡ slope_of program.now self.now.box self.now.prices row by false }
         ensures up { IsSlope program.now self.now.box self.now.prices row by result.up }
         ensures down { IsSlope program.now self.now.box self.now.prices row by result.down }
     {

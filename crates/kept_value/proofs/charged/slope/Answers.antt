@@ -1,11 +1,11 @@
-use Rattle.std.proofs.Common.{◌≡◌, ◌≤◌, ◌^◌, arith}
+use Rattle.std.proofs.Common.{◌≡◌, ◌≤◌, ◌^◌, ap, ◌∙◌, arith}
 use Rattle.std.specs.Int.{w64, w128}
-use Rattle.std.specs.Prelude.{FitsSigned, pos, ◌-ℤ◌, ◌*ℤ◌, unsigned_abs}
+use Rattle.std.specs.Prelude.{FitsSigned, ℤ, int_lt, pos, ◌-ℤ◌, ◌*ℤ◌, unsigned_abs}
 use Rattle.std.proofs.lemmas.Int.{fits_signed_from_abs, ints, to_z-of_z}
 use mir.Val.{of_z, to_z}
 use Rattle.safe_bound.proofs.CostedLaws.{product-small}
 use Rattle.safe_bound.proofs.PaidLaws.{payment_fits, shown_payment}
-use Rattle.kept_value.proofs.ChargedLaws.{column_value-slope}
+use Rattle.kept_value.proofs.ChargedLaws.{column_value-slope, goes_to_low-tested}
 use Rattle.kept_value.proofs.charged.slope.Goals as goal
 
 -- the coefficient times the bound is small
@@ -31,6 +31,10 @@ pub returns : goal.returns
 returns c =
     let cost : FitsSigned w128 c.args.cost = c.ranges.cost in
     record {
+      value =
+          answer c
+          ∙ ap (λ (z : ℤ). pos 0 -ℤ c.args.coefficient *ℤ z)
+          (rw (to_z-of_z w128 c.args.cost cost, to_z-of_z w64 c.args.coefficient c.ranges.coefficient, goes_to_low-tested (int_lt c.args.coefficient (pos 0)) c.args.rises) at c.best_bound-bound.ensures.value);
       slope = λ more.
           rw (answer c)
           (column_value-slope c.args.bounds.now c.args.j c.args.cost c.args.coefficient c.best_bound-bound.result more c.best_bound-bound.ensures.bound

@@ -1,11 +1,11 @@
-use Rattle.std.proofs.Common.{◌≡◌, ℕ, length, ap, ◌∙◌, sym, arith}
+use Rattle.std.proofs.Common.{◌≡◌, All, Bool, true, false, ℕ, ◌<◌, length, ap, ◌∙◌, sym, arith}
 use Rattle.std.specs.Int.{w64}
 use Rattle.std.specs.Prelude.{ℤ, ◌+ℤ◌}
 use Rattle.std.proofs.lemmas.Int.{ints, to_z-of_z}
 use mir.Val.{of_z, to_z}
-use Rattle.sparse_program.specs.Program.{row_of}
+use Rattle.sparse_program.specs.Program.{row_of, terms_of}
 use Rattle.kept_value.specs.Kept.{reduced_at}
-use Rattle.kept_value.proofs.KeptLaws.{IsSlope-charged}
+use Rattle.kept_value.proofs.KeptLaws.{IsSlope-charged, standing-charged}
 use Rattle.kept_value.proofs.kept.KeptValue.slopes.Goals as goal
 
 pub slopes_of-columns-requires : goal.slopes_of-columns-requires
@@ -32,8 +32,12 @@ returns c =
     omega (arith, ints, c.side_of-side.ensures.small, c.side_of-side.ensures.value, c.slopes_of-columns.ensures.small) in
     let down : to_z w64 (of_z w64 (to_z w64 (of_z w64 c.side_of-side.result) +ℤ to_z w64 (of_z w64 c.slopes_of-columns.result.down))) ≡ (row_of rows row).rhs +ℤ c.slopes_of-columns.result.down =
     omega (arith, ints, c.side_of-side.ensures.small, c.side_of-side.ensures.value, c.slopes_of-columns.ensures.small) in
+    let there : All (λ (term : ℕ × ℤ). term.0 < length c.args.program.now.columns) (terms_of rows row) = rw c.terms_of.ensures.value at c.terms_of.ensures.lawful.there in
+    let stands = λ (rises : Bool). standing-charged c.args.program.now c.self.inside.bounds c.self.inside.prices.items costs row c.args.by rises of.reduced c.requires.there of.lawful.one_per_row there in
     rw (← c.self.view_is)
     (record {
+      rising = omega (arith, ints, up, stands true, rw (by, c.as_slice.ensures.value, c.terms_of.ensures.value) at c.slopes_of-columns.ensures.rising);
+      falling = omega (arith, ints, down, stands false, rw (by, c.as_slice.ensures.value, c.terms_of.ensures.value) at c.slopes_of-columns.ensures.falling);
       up = λ other.
           rw up
           (IsSlope-charged c.args.program.now c.self.inside.bounds c.self.inside.prices.items costs row c.args.by c.slopes_of-columns.result.up of.reduced c.requires.there of.lawful.one_per_row
