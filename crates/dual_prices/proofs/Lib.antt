@@ -1,0 +1,3 @@
+pub mod GainLaws
+pub mod LocalLaws
+pub mod NeighbourLaws
