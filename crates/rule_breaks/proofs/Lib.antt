@@ -2,3 +2,13 @@ pub mod WindowLaws
 pub mod MetRows
 pub mod ShownWords
 pub mod PlanRows
+pub mod WalkLaws
+pub mod NamedSteps
+pub mod RowsWithin
+pub mod MetWhereNone
+pub mod BitCounts
+pub mod WalkKinds
+pub mod FewRows
+pub mod NoneBroken
+pub mod StayRows
+pub mod FirstBreak

@@ -1,0 +1,13 @@
+use Rattle.std.proofs.Common.{◌≡◌}
+use Rattle.std.specs.Prelude.{Ok}
+use Rattle.listed.specs.Below.{join_below}
+use Rattle.ct_base.specs.Access.{signal_of}
+use Rattle.rule_breaks.specs.Breaks.{value_in}
+use Rattle.rule_breaks.specs.inner.Kinds.{rows_of_phase}
+use Rattle.rule_breaks.specs.inner.Walk.{walk}
+use Rattle.rule_breaks.proofs.walk.pass_kind.Given as goal
+
+-- the rows of the phases before were passed
+abbrev pub invariant-loop-p : goal.invariant-loop-p
+invariant-loop-p l =
+    walk (value_in l.net l.bits) l.part.steps l.number (join_below l.p (rows_of_phase (signal_of l.net.signals l.part.signal) l.net.steps l.part.signal l.t l.kind)) ≡ Ok l.next

@@ -1,0 +1,12 @@
+use Rattle.std.proofs.Common.{◌≡◌}
+use Rattle.std.specs.Prelude.{Ok}
+use Rattle.listed.specs.Below.{join_below}
+use Rattle.ct_base.specs.Access.{signal_of}
+use Rattle.program_model.specs.RuleRows.{rule_rows_at}
+use Rattle.rule_breaks.specs.Breaks.{value_in}
+use Rattle.rule_breaks.specs.inner.Walk.{walk}
+use Rattle.rule_breaks.proofs.walk.pass_signal.Given as goal
+
+-- the rows of the steps before were passed
+abbrev pub invariant-loop-t : goal.invariant-loop-t
+invariant-loop-t l = walk (value_in l.net l.bits) l.part.steps l.number (join_below l.t (rule_rows_at (signal_of l.net.signals l.part.signal) l.net.steps l.part.signal)) ≡ Ok l.next
