@@ -1,0 +1,4 @@
+pub mod SplitLaws
+pub mod BitLaws
+pub mod NumberLaws
+pub mod BreakLaws
