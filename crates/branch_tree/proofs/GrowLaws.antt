@@ -379,3 +379,22 @@ none_is_open root slots first n kept none =
           let unreached : times (tree_of slots) n ≡ 0 = kept.each.numbers n ∙ ap (λ (b : Bool). cond b 1 0) (le-ltb n (length slots) (omega arith)) in
           le-ltb 0 (opens (tree_of slots) n) (omega arith)
     ]
+
+-- an open slot is an open leaf
+pub slot_is_open : (root : Ranges) (slots : List Slot) (n : ℕ) → AreSlots root slots → n < length slots → is_open_state (slot_of slots n).state ≡ is_open (tree_of slots) n
+slot_is_open root slots n kept there =
+    let counted = opens_of root slots n kept in
+    let stands = once root slots n kept there in
+    elim (cases_Bool (is_open_state (slot_of slots n).state)) [
+      | inl here ↦
+          here
+          ∙ sym (lt-ltb 0 (opens (tree_of slots) n) (omega (arith, counted ∙ ap (λ (b : Bool). cond b (times (tree_of slots) n) 0) here ∙ stands)))
+      | inr closed ↦ closed ∙ sym (closed_is_not_open root slots n kept closed)
+    ]
+
+-- and a number past the end is none
+pub past_is_not_open : (root : Ranges) (slots : List Slot) (n : ℕ) → AreSlots root slots → length slots ≤ n → is_open (tree_of slots) n ≡ false
+past_is_not_open root slots n kept past =
+    let count : opens (tree_of slots) n ≤ times (tree_of slots) n = opens_times (tree_of slots) n in
+    let unreached : times (tree_of slots) n ≡ 0 = kept.numbers n ∙ ap (λ (b : Bool). cond b 1 0) (le-ltb n (length slots) past) in
+    le-ltb 0 (opens (tree_of slots) n) (omega arith)

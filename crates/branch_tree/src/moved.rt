@@ -5,6 +5,8 @@ ghost use Rattle.sparse_program.specs.Box.{IsBox, Ranges, high_of, low_of};
 ghost use Rattle.sparse_program.specs.Program.{Parts};
 ghost use Rattle.sparse_program.specs.Terms.{IsSmall};
 
+use kept_value::KeptValue;
+use safe_bound::CostedBox;
 use sparse_program::{Bounds, Program};
 
 /// A box whose bounds are narrowed and set back, with what is kept of it for a program.
@@ -108,5 +110,82 @@ impl Moved for Bounds {
 
     fn set_high_back(&mut self, _program: &Program, j: u32, high: i64) {
         self.undo_high(j, high);
+    }
+}
+
+impl Moved for CostedBox {
+    ghost use Rattle.std.specs.Prelude.{[]};
+    ghost use Rattle.safe_bound.specs.Costed.{IsCostedOf};
+
+    ghost ranges = { λ moved. moved.box };
+
+    ghost IsOf = { λ program moved. IsCostedOf program moved };
+
+    ghost prices = { λ moved. [] };
+
+    fn is_box(&self) {
+        CostedBox::is_box(self)
+    }
+
+    fn low_at(&self, j: u32) -> i64 {
+        self.low(j)
+    }
+
+    fn high_at(&self, j: u32) -> i64 {
+        self.high(j)
+    }
+
+    fn raise_low(&mut self, program: &Program, j: u32, low: i64) {
+        let _ = self.narrow_low(program, j, low);
+    }
+
+    fn lower_high(&mut self, program: &Program, j: u32, high: i64) {
+        let _ = self.narrow_high(program, j, high);
+    }
+
+    fn set_low_back(&mut self, program: &Program, j: u32, low: i64) {
+        self.undo_low(program, j, low);
+    }
+
+    fn set_high_back(&mut self, program: &Program, j: u32, high: i64) {
+        self.undo_high(program, j, high);
+    }
+}
+
+impl Moved for KeptValue {
+    ghost use Rattle.kept_value.specs.Kept.{IsKeptOf};
+
+    ghost ranges = { λ moved. moved.box };
+
+    ghost IsOf = { λ program moved. IsKeptOf program moved };
+
+    ghost prices = { λ moved. moved.prices };
+
+    fn is_box(&self) {
+        self.bounds().is_box()
+    }
+
+    fn low_at(&self, j: u32) -> i64 {
+        self.bounds().low(j)
+    }
+
+    fn high_at(&self, j: u32) -> i64 {
+        self.bounds().high(j)
+    }
+
+    fn raise_low(&mut self, program: &Program, j: u32, low: i64) {
+        let _ = self.narrow_low(program, j, low);
+    }
+
+    fn lower_high(&mut self, program: &Program, j: u32, high: i64) {
+        let _ = self.narrow_high(program, j, high);
+    }
+
+    fn set_low_back(&mut self, program: &Program, j: u32, low: i64) {
+        self.undo_low(program, j, low);
+    }
+
+    fn set_high_back(&mut self, program: &Program, j: u32, high: i64) {
+        self.undo_high(program, j, high);
     }
 }

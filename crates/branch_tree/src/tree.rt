@@ -68,6 +68,13 @@ impl Tree {
         self.nodes.count()
     }
 
+    /// Whether an open leaf has the number.
+    pub fn is_open(&self, number: u32) -> bool
+        ensures { result ≡ is_open self.now.tree number }
+    {
+        number < self.nodes.count() && self.nodes.slot(number).is_open()
+    }
+
     /// The least number of an open leaf.
     pub fn least_open(&self) -> Option<u32>
         ensures some { IfSome result (λ leaf. IsTrue (is_open self.now.tree leaf)) }
