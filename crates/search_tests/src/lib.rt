@@ -3,3 +3,13 @@
 
 #[cfg(test)]
 mod branch_trees;
+#[cfg(test)]
+mod broken_rows;
+#[cfg(test)]
+mod networks;
+#[cfg(test)]
+mod plans;
+#[cfg(test)]
+mod prices;
+#[cfg(test)]
+mod seeds;
