@@ -1,0 +1,15 @@
+pub mod BrokenRules
+pub mod DecidedLaws
+pub mod PlanColumnLaws
+pub mod PriceLaws
+pub mod RowLaws
+pub mod RuleBits
+pub mod SearchLaws
+pub mod ShapeLaws
+pub mod SolvedLaws
+pub mod StartLaws
+pub mod StepLaws
+pub mod TaskLaws
+pub mod TextLaws
+pub mod TurnLaws
+pub mod WholeLaws

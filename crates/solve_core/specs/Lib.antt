@@ -1,0 +1,6 @@
+pub mod Shapes
+pub mod Earned
+pub mod Growth
+pub mod Searched
+pub mod Solved
+pub mod inner
