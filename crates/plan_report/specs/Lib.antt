@@ -1,3 +1,4 @@
 pub mod Gaps
+pub mod Summary
 pub mod Table
 pub mod inner

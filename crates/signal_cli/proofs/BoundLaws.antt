@@ -1,4 +1,4 @@
--- What the reply that is due to a certificate says of its bound.
+-- What the reply that is due to a certificate, or to a search, says of its bound.
 use Rattle.std.proofs.Common.{◌≡◌, ℕ, Bool, true, false, if◌then◌else◌, nat_lt, List, [], ◌∷◌, length, Option, Some, None, Result, Ok, Err, refl, ap, sym, subst, ◌∙◌, arith}
 use Rattle.std.specs.Prelude.{ℤ}
 use Rattle.limits.specs.declared.TheConstants.{MAX_FILE_BYTES}
@@ -20,9 +20,12 @@ use Rattle.certificate_model.specs.declared.constants.TheConstants.{MAX_CERTIFIC
 use Rattle.certificate_model.specs.declared.verdict.Verdict.{Verdict}
 use Rattle.certificate_model.specs.declared.verdict.Verdict.TheVariants.{Accepted, Rejected}
 use Rattle.certificate_model.specs.declared.verdict.Why.{Why}
-use Rattle.certificate_model.proofs.VerdictLaws.{accepted_is, is_accepted, one_verdict}
+use Rattle.certificate_model.proofs.VerdictLaws.{accepted_is, accepted_is_safe, is_accepted, one_verdict}
+use Rattle.solve_core.specs.Solved.{solve_faults}
+use Rattle.solve_core.specs.declared.fault.SolveFault.{SolveFault}
 use Rattle.signal_cli.specs.Accepted.{Shows}
-use Rattle.signal_cli.specs.Answers.{◌>>=◌, Follows, IsJudged, content_in, found, network, network_as, network_from, network_in, plan, plan_from, plan_in, planned_as, sized, sized_as, sized_in, sized_planned_in, with_certificate, with_plan}
+use Rattle.signal_cli.specs.Answers.{◌>>=◌, Follows, IsJudged, content_in, found, network, network_as, network_from, network_in, plan, plan_from, plan_in, planned_as, searchable, searchable_as, searchable_in, sized, sized_as, sized_in, sized_planned_in, with_certificate, with_plan}
+use Rattle.signal_cli.specs.Bounds.{IsSafe}
 use Rattle.signal_cli.specs.Faults.{reply_status}
 use Rattle.signal_cli.specs.declared.fault.Fault.{Fault}
 use Rattle.signal_cli.specs.declared.input.Content.{Content}
@@ -70,6 +73,30 @@ sized_network files name named is = by_found (network_in files name) refl is
     by_found : (made : Result Named Fault) → network_in files name ≡ made → (made >>= sized) ≡ Ok named → network_in files name ≡ Ok named
     by_found (Err fault) found is = absurd (cc)
     by_found (Ok first) found is = found ∙ ap (λ (named : Named). Ok named) (by_faults first (size_faults first.net) is)
+
+-- and so is one whose size was judged for a budget
+pub searchable_network : (files : Files) (name : List ℕ) (budget : ℕ) (named : Named) → searchable_in files name budget ≡ Ok named → network_in files name ≡ Ok named
+searchable_network files name budget named is = by_found (network_in files name) refl is
+  where
+    by_faults : (first : Named) (faults : List SolveFault) → searchable_as (unless faults first) ≡ Ok named → first ≡ named
+    by_faults first [] is = cc
+    by_faults first (fault ∷ faults) is = absurd (cc)
+
+    by_found : (made : Result Named Fault) → network_in files name ≡ made → (made >>= searchable budget) ≡ Ok named → network_in files name ≡ Ok named
+    by_found (Err fault) found is = absurd (cc)
+    by_found (Ok first) found is = found ∙ ap (λ (named : Named). Ok named) (by_faults first (solve_faults first.net budget) is)
+
+-- the bound of an accepted text is safe for the network in the file
+unfoldable pub safe_for : (files : Files) (network : List ℕ) (named : Named) → network_in files network ≡ Ok named → (text : List ℕ) (bound : ℤ) → IsVerdict named.net text (Accepted bound) → IsSafe network bound files
+safe_for files network named found text bound verdict =
+    let spelled = network_spelled files network named found in
+    record {
+      bytes = spelled.0;
+      there = spelled.1;
+      named = named;
+      spelled = spelled.2;
+      least = λ plan admissible. accepted_is_safe named.net text bound plan (network_valid files network named found) verdict admissible;
+    }
 
 -- what became of a text as an answer of the program is a plan where it spells it
 plan_made : (made : Result Plan PlanFault) (read : Plan) → planned_as made ≡ Ok read → made ≡ Ok read

@@ -1,5 +1,5 @@
--- That a run of `check` or `gap` which keeps its promise is sound and exact.
-use Rattle.std.proofs.Common.{◌≡◌, ℕ, ◌≤◌, ◌⊎◌, inl, inr, List, Option, Some, None, Result, Ok, Err, IfSome, refl, ap, sym, subst, ◌∙◌, arith}
+-- That a run of `check`, `gap` or `solve` which keeps its promise is sound, and one of `check` or `gap` exact.
+use Rattle.std.proofs.Common.{◌≡◌, ℕ, ◌≤◌, ◌⊎◌, inl, inr, true, List, ◌++◌, Option, Some, None, Result, Ok, Err, IfSome, refl, ap, sym, subst, ◌∙◌, arith}
 use Rattle.std.specs.Prelude.{ℤ}
 use Rattle.shelf_io.specs.Told.{Files, with_taken}
 use Rattle.ct_base.specs.declared.plan.Plan.{Plan}
@@ -8,26 +8,26 @@ use Rattle.named_net.specs.Naming.{Named}
 use Rattle.cell_build.proofs.SpelledLaws.{spelled_is_named}
 use Rattle.plan_file.specs.Spelled.{spelled_plan}
 use Rattle.plan_file.proofs.ReadLaws.{read_is_admissible}
-use Rattle.certificate_model.specs.Verdicts.{IsVerdict}
 use Rattle.certificate_model.specs.declared.verdict.Verdict.{Verdict}
 use Rattle.certificate_model.specs.declared.verdict.Verdict.TheVariants.{Accepted, Rejected}
 use Rattle.certificate_model.specs.declared.verdict.Why.{Why}
-use Rattle.certificate_model.proofs.VerdictLaws.{accepted_is_safe}
 use Rattle.signal_cli.specs.Accepted.{CanBeJudged, Decides, HoldsBoth, IsExact, PutsAccepted, PutsCompared}
 use Rattle.signal_cli.specs.Answers.{◌>>=◌, CheckGives, Follows, GapGives, IsJudged, check_reply, gap_reply, network_in, sized_in, sized_planned_in, with_certificate}
 use Rattle.signal_cli.specs.BoundLines.{accepted_lines, gap_lines}
-use Rattle.signal_cli.specs.Bounds.{IsGap, IsSafe, IsSound, delay_under}
-use Rattle.signal_cli.specs.Commands.{Check, Command, Encode, Gap, Program, Replay, Trace}
+use Rattle.signal_cli.specs.Bounds.{IsGap, IsSafe, delay_under}
+use Rattle.signal_cli.specs.Commands.{Check, Command, Encode, Gap, Program, Replay, Solve, Trace, are_names, inputs_of, outputs_of}
 use Rattle.signal_cli.specs.Faults.{outcome_status, reply_status}
 use Rattle.signal_cli.specs.Promises.{Keeps}
+use Rattle.signal_cli.specs.Sound.{IsSound}
 use Rattle.signal_cli.specs.Worlds.{ForFiles, NoneFailed, World}
 use Rattle.signal_cli.specs.declared.fault.Fault.{Fault}
 use Rattle.signal_cli.specs.declared.input.Content.{Content}
 use Rattle.signal_cli.specs.declared.input.Planned.{Planned}
 use Rattle.signal_cli.specs.declared.reply.Reply.{Reply}
-use Rattle.signal_cli.proofs.BoundLaws.{IsRead, accepted_shows, both_read, is_read, network_spelled, network_valid, plan_spelled, sized_network, was_accepted, was_rejected}
+use Rattle.signal_cli.proofs.BoundLaws.{IsRead, accepted_shows, both_read, is_read, network_spelled, network_valid, plan_spelled, safe_for, sized_network, was_accepted, was_rejected}
 use Rattle.signal_cli.proofs.KeptPromises.{small_status}
 use Rattle.signal_cli.proofs.Reading.{for_files}
+use Rattle.signal_cli.proofs.SearchPromises.{names_differ, puts_plan, solved_for}
 
 -- what `check` reads and what is due to it
 abbrev IsChecked : Named × Content → Reply → Type 0
@@ -49,19 +49,6 @@ gap_rejects planned number why = refl
 gap_accepts : (planned : Planned) (bound : ℤ) → reply_status (gap_reply planned (Accepted bound)) ≡ 0
 gap_accepts planned bound = refl
 
--- the bound of an accepted text is safe for the network in the file
-safe_for : (files : Files) (network : List ℕ) (named : Named) → sized_in files network ≡ Ok named → (text : List ℕ) (bound : ℤ) → IsVerdict named.net text (Accepted bound) → IsSafe network bound files
-safe_for files network named sized text bound verdict =
-    let found : network_in files network ≡ Ok named = sized_network files network named sized in
-    let spelled = network_spelled files network named found in
-    record {
-      bytes = spelled.0;
-      there = spelled.1;
-      named = named;
-      spelled = spelled.2;
-      least = λ plan admissible. accepted_is_safe named.net text bound plan (network_valid files network named found) verdict admissible;
-    }
-
 -- the plan that bytes spell for that network is admissible
 plan_admissible : (files : Files) (network : List ℕ) (named : Named) (plan : Plan) → sized_in files network ≡ Ok named → (bytes : List ℕ) → spelled_plan named bytes ≡ Ok plan → IsAdmissiblePlan named.net plan
 plan_admissible files network named plan sized bytes spelled =
@@ -81,7 +68,7 @@ checked network certificate files reply gives zero =
     record {
       bound = was.bound;
       lines = ap (λ (reply : Reply). reply.lines) was.answered;
-      safe = safe_for files network read.first read.made_is was.text was.bound was.verdict;
+      safe = safe_for files network read.first (sized_network files network read.first read.made_is) was.text was.bound was.verdict;
     }
 
 -- a reply of `gap` with status 0
@@ -104,7 +91,7 @@ compared network plan certificate files reply gives zero =
       bound = was.bound;
       lines = ap (λ (reply : Reply). reply.lines) was.answered;
       safe = record {
-        safe = safe_for files network planned.named both.0 was.text was.bound was.verdict;
+        safe = safe_for files network planned.named (sized_network files network planned.named both.0) was.text was.bound was.verdict;
         bytes = spelled.0;
         there = spelled.1;
         read = planned.plan;
@@ -172,22 +159,25 @@ planned_of : (network plan : List ℕ) (files : Files) (planned : Planned) → s
 planned_of network plan files planned is = sized_network files network planned.named (both_read files network plan planned is).0
 
 -- a run that keeps what its command promises is sound
-pub is_sound : (command : Option Command) (before after : World) (status : ℕ) → Keeps command before after status → IsSound command before after status
-is_sound None before after status keeps = tt
-is_sound (Some (Replay network plan)) before after status keeps = tt
-is_sound (Some (Trace network plan table)) before after status keeps = tt
-is_sound (Some (Program network text)) before after status keeps = tt
-is_sound (Some (Encode network plan text)) before after status keeps = tt
-is_sound (Some (Check network certificate)) before after status keeps = λ zero.
+pub is_sound : (command : Command) (before after : World) (status : ℕ) → are_names (inputs_of command ++ outputs_of command) ≡ true → Keeps (Some command) before after status → IsSound (Some command) before after status
+is_sound (Replay network plan) before after status names keeps = tt
+is_sound (Trace network plan table) before after status names keeps = tt
+is_sound (Program network text) before after status names keeps = tt
+is_sound (Encode network plan text) before after status names keeps = tt
+is_sound (Check network certificate) before after status names keeps = λ zero.
     let answered = keeps.answered (omega (arith, zero)) in
     let done = puts_bound before after before.shelf.files network answered.reply answered.put
     (for_files before.shelf.files (λ files. CheckGives network certificate files (Ok answered.reply)) (λ files. Checked network files answered.reply) (λ files gives. checked network certificate files answered.reply gives (answered.is ∙ zero)) answered.deserved) in
     record { bound = done.0; put = done.1; safe = done.2 }
-is_sound (Some (Gap network plan certificate)) before after status keeps = λ zero.
+is_sound (Gap network plan certificate) before after status names keeps = λ zero.
     let answered = keeps.answered (omega (arith, zero)) in
     let done = puts_gap before after before.shelf.files network plan answered.reply answered.put
     (for_files before.shelf.files (λ files. GapGives network plan certificate files (Ok answered.reply)) (λ files. Compared network plan files answered.reply) (λ files gives. compared network plan certificate files answered.reply gives (answered.is ∙ zero)) answered.deserved) in
     record { delay = done.0; bound = done.1; put = done.2; safe = done.3 }
+is_sound (Solve network budget plan certificate) before after status names keeps = λ zero.
+    let answered = keeps.answered (omega (arith, zero)) in
+    let solved = solved_for before.shelf.files network budget plan certificate answered.reply answered.deserved in
+    puts_plan network budget plan certificate before after (names_differ network plan certificate names) answered.reply answered.written answered.put solved.0 solved.1 solved.2
 
 -- and exact
 pub is_exact : (command : Option Command) (before after : World) (status : ℕ) → Keeps command before after status → IsExact command before after status
@@ -196,6 +186,7 @@ is_exact (Some (Replay network plan)) before after status keeps = tt
 is_exact (Some (Trace network plan table)) before after status keeps = tt
 is_exact (Some (Program network text)) before after status keeps = tt
 is_exact (Some (Encode network plan text)) before after status keeps = tt
+is_exact (Some (Solve network budget plan certificate)) before after status keeps = tt
 is_exact (Some (Check network certificate)) before after status keeps =
     decided before after (λ files. sized_in files network) (λ (named : Named). named) (λ (named : Named). check_reply) network certificate (sized_of network) (λ (named : Named). check_rejects) (λ (named : Named). check_accepts) (PutsAccepted before after)
     (λ named bound reply is put. put ∙ ap (λ (reply : Reply). with_taken before.out reply.lines) is) before.shelf.files status
@@ -204,3 +195,32 @@ is_exact (Some (Gap network plan certificate)) before after status keeps =
     decided before after (λ files. sized_planned_in files network plan) (λ (planned : Planned). planned.named) gap_reply network certificate (planned_of network plan) gap_rejects gap_accepts (PutsCompared before after)
     (λ planned bound reply is put. (delay_under planned.named.net planned.plan, put ∙ ap (λ (reply : Reply). with_taken before.out reply.lines) is)) before.shelf.files status
     (λ small. let answered = keeps.answered small in (answered.reply, answered.deserved, answered.is, answered.put)) keeps.complete
+
+-- A run that ends for want of memory has put no bound and decided nothing.
+pub sound_at_8 : (command : Option Command) (before after : World) → IsSound command before after 8
+sound_at_8 None before after = tt
+sound_at_8 (Some (Replay network plan)) before after = tt
+sound_at_8 (Some (Trace network plan table)) before after = tt
+sound_at_8 (Some (Program network text)) before after = tt
+sound_at_8 (Some (Encode network plan text)) before after = tt
+sound_at_8 (Some (Check network certificate)) before after = λ zero. absurd (omega (arith, zero))
+sound_at_8 (Some (Gap network plan certificate)) before after = λ zero. absurd (omega (arith, zero))
+sound_at_8 (Some (Solve network budget plan certificate)) before after = λ zero. absurd (omega (arith, zero))
+
+decided_at_8 : {X : Type 0} (told : Option Files) (made : Files → Result X Fault) (network certificate : List ℕ) (before after : World) (Puts : ℤ → Type 0) → IfSome told (λ files. Decides (made files) files network certificate before after Puts 8)
+decided_at_8 None made network certificate before after Puts = tt
+decided_at_8 (Some files) made network certificate before after Puts = record {
+  accepted = λ zero. absurd (omega (arith, zero));
+  rejected = λ one. absurd (omega (arith, one));
+  complete = λ none judged. inr refl;
+}
+
+pub exact_at_8 : (command : Option Command) (before after : World) → IsExact command before after 8
+exact_at_8 None before after = tt
+exact_at_8 (Some (Replay network plan)) before after = tt
+exact_at_8 (Some (Trace network plan table)) before after = tt
+exact_at_8 (Some (Program network text)) before after = tt
+exact_at_8 (Some (Encode network plan text)) before after = tt
+exact_at_8 (Some (Solve network budget plan certificate)) before after = tt
+exact_at_8 (Some (Check network certificate)) before after = decided_at_8 before.shelf.files (λ files. sized_in files network) network certificate before after (PutsAccepted before after)
+exact_at_8 (Some (Gap network plan certificate)) before after = decided_at_8 before.shelf.files (λ files. sized_planned_in files network plan) network certificate before after (PutsCompared before after)

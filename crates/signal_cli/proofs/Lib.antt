@@ -6,5 +6,6 @@ pub mod KnownLimits
 pub mod NamedOutputs
 pub mod Pieces
 pub mod Reading
+pub mod SearchPromises
 pub mod TraceCells
 pub mod Unnamed

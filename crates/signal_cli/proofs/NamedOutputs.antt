@@ -7,8 +7,8 @@ use Rattle.named_net.specs.Naming.{Named}
 use Rattle.program_model.specs.Points.{program_of}
 use Rattle.certificate_model.specs.declared.verdict.Verdict.{Verdict}
 use Rattle.certificate_model.specs.declared.verdict.Verdict.TheVariants.{Accepted, Rejected}
-use Rattle.signal_cli.specs.Answers.{◌>>=◌, Deserves, Follows, IsJudged, check_reply, gap_reply, network_in, planned_in, point_reply, printed, program_reply, replay_alone, replay_lines, sized_in, sized_planned_in, trace_reply, with_certificate}
-use Rattle.signal_cli.specs.Commands.{Check, Command, Encode, Gap, Program, Replay, Trace, outputs_of}
+use Rattle.signal_cli.specs.Answers.{◌>>=◌, Deserves, Follows, IsJudged, IsSearchReply, check_reply, gap_reply, network_in, planned_in, point_reply, printed, program_reply, replay_alone, replay_lines, searchable_in, sized_in, sized_planned_in, trace_reply, with_certificate}
+use Rattle.signal_cli.specs.Commands.{Check, Command, Encode, Gap, Program, Replay, Solve, Trace, outputs_of}
 use Rattle.signal_cli.specs.declared.fault.Fault.{Fault}
 use Rattle.signal_cli.specs.declared.input.Content.{Content}
 use Rattle.signal_cli.specs.declared.input.Content.TheVariants.{TooLong, Whole}
@@ -64,3 +64,5 @@ outputs_are_named (Check network certificate) files reply is =
     due (with_certificate (sized_in files network) files certificate) (λ read. IsJudged read.0.net check_reply read.1) [] (λ read reply is. judged read.0.net check_reply checked read.1 reply is) reply is
 outputs_are_named (Gap network plan certificate) files reply is =
     due (with_certificate (sized_planned_in files network plan) files certificate) (λ read. IsJudged read.0.named.net (gap_reply read.0) read.1) [] (λ read reply is. judged read.0.named.net (gap_reply read.0) (compared read.0) read.1 reply is) reply is
+outputs_are_named (Solve network budget plan certificate) files reply is =
+    due (searchable_in files network budget) (IsSearchReply budget plan certificate) (plan ∷ certificate ∷ []) (λ named reply is. ap (λ (reply : Reply). names_of reply.outputs) is.is) reply is

@@ -1,9 +1,10 @@
 -- What a command deserves where the bytes of its files are told: a reply, or the first fault in the order of judging
 -- (README.md, "Statuses").
-use Rattle.std.specs.Prelude.{◌≡◌, ℕ, ℤ, true, false, nat_lt, if◌then◌else◌, List, [], ◌∷◌, ◌++◌, length, Option, Some, None, Result, Ok, Err, codes}
+use Rattle.std.specs.Prelude.{◌≡◌, ℕ, ℤ, true, false, nat_lt, if◌then◌else◌, List, [], ◌∷◌, ◌++◌, length, map, Option, Some, None, Result, Ok, Err, codes}
 use Rattle.std.specs.Fmt.{decimal}
 use Rattle.limits.specs.declared.TheConstants.{MAX_FILE_BYTES}
 use Rattle.shelf_io.specs.Told.{Files, bytes_of}
+use Rattle.shelf_io.specs.declared.file_map.File.{File}
 use Rattle.ct_base.specs.declared.net.Net.{Net}
 use Rattle.ct_base.specs.declared.plan.Letter.{Letter}
 use Rattle.ct_base.specs.declared.plan.Plan.{Plan}
@@ -12,6 +13,7 @@ use Rattle.traffic_model.specs.Delay.{delay_of, left_of, letters_at}
 use Rattle.named_net.specs.Naming.{Named}
 use Rattle.cell_build.specs.Spelled.{spelled_network}
 use Rattle.cell_build.specs.declared.network_fault.NetworkFault.{NetworkFault}
+use Rattle.plan_file.specs.PlanText.{Spells}
 use Rattle.plan_file.specs.Spelled.{spelled_plan}
 use Rattle.plan_file.specs.declared.fault.PlanFault.{PlanFault}
 use Rattle.plan_file.specs.declared.fault.PlanFault.TheVariants.{Missing}
@@ -20,17 +22,23 @@ use Rattle.program_model.specs.Points.{point_of, program_of}
 use Rattle.cell_replay.specs.Trace.{trace_of}
 use Rattle.lo_program.specs.Compiled.{size_faults}
 use Rattle.lo_program.specs.declared.fault.CompileFault.{CompileFault}
+use Rattle.plan_report.specs.Summary.{summary_lines}
 use Rattle.plan_report.specs.Table.{trace_text}
 use Rattle.program_text.specs.PointText.{point_text}
 use Rattle.program_text.specs.ProgramText.{program_text}
 use Rattle.refusals.specs.Faults.{unless}
+use Rattle.certificate_model.specs.Text.{certificate_text}
 use Rattle.certificate_model.specs.Verdicts.{IsVerdict}
 use Rattle.certificate_model.specs.declared.constants.TheConstants.{MAX_CERTIFICATE_BYTES}
 use Rattle.certificate_model.specs.declared.verdict.Verdict.{Verdict}
 use Rattle.certificate_model.specs.declared.verdict.Verdict.TheVariants.{Accepted, Rejected}
+use Rattle.cert_format.specs.Marks.{node_of}
+use Rattle.solve_core.specs.Solved.{IsSolved, solve_faults}
+use Rattle.solve_core.specs.declared.fault.SolveFault.{SolveFault}
+use Rattle.solve_core.specs.declared.solved.Solved.{Solved}
 use Rattle.signal_cli.specs.BoundLines.{accepted_lines, gap_lines}
-use Rattle.signal_cli.specs.Commands.{Check, Command, Encode, Gap, Program, Replay, Trace}
-use Rattle.signal_cli.specs.Faults.{uncompiled_of}
+use Rattle.signal_cli.specs.Commands.{Check, Command, Encode, Gap, Program, Replay, Solve, Trace}
+use Rattle.signal_cli.specs.Faults.{uncompiled_of, unsolved_of}
 use Rattle.signal_cli.specs.RejectionLines.{long_lines, rejected_lines}
 use Rattle.signal_cli.specs.declared.fault.Fault.{Fault}
 use Rattle.signal_cli.specs.declared.fault.Fault.TheVariants.{NetworkLong, Network, PlanLong, Plan as PlanRefused, Read}
@@ -220,6 +228,43 @@ abbrev pub GapGives : List ℕ → List ℕ → List ℕ → Files → Result Re
 GapGives network plan certificate files outcome =
     Follows (with_certificate (sized_planned_in files network plan) files certificate) (λ read. IsJudged read.0.named.net (gap_reply read.0) read.1) outcome
 
+-- a network and a budget that were judged, as an answer of the planner
+abbrev pub searchable_as : Result Named SolveFault → Result Named Fault
+searchable_as (Ok named) = Ok named
+searchable_as (Err fault) = Err (unsolved_of fault)
+
+-- a network whose program is not too large, and whose rows a budget of nodes is not too great for (docs/search.md, "Limits")
+abbrev pub searchable : ℕ → Named → Result Named Fault
+searchable budget named = searchable_as (unless (solve_faults named.net budget) named)
+
+-- the network in the named file, its size and the budget judged as soon as the file was
+abbrev pub searchable_in : Files → List ℕ → ℕ → Result Named Fault
+searchable_in files name budget = network_in files name >>= searchable budget
+
+-- two files, and then lines
+abbrev pub both_filed : (first second : File) → List ℕ → Reply
+both_filed first second lines = record { rejected = false; lines = lines; outputs = first ∷ second ∷ [] }
+
+-- the text of a plan for one file, that of a certificate for another, and the lines of a search
+abbrev pub solve_reply : (plan certificate text : List ℕ) → Solved → Reply
+solve_reply plan certificate text solved =
+    both_filed
+    (record { name = plan; bytes = text })
+    (record { name = certificate; bytes = certificate_text solved.cert.bound (map node_of solved.cert.nodes) })
+    (summary_lines solved.delay solved.cert.bound solved.nodes solved.state)
+
+-- the reply is to what some search within a budget comes to for a network: its plan and its certificate, and its lines
+pub record IsSearchReply (budget : ℕ) (plan certificate : List ℕ) (named : Named) (reply : Reply) : Type 0 where
+  pub solved : Solved
+  pub searched : IsSolved named.net budget solved
+  pub text : List ℕ
+  pub spells : Spells named text solved.plan
+  pub is : reply ≡ solve_reply plan certificate text solved
+
+-- `solve NET BUDGET PLANOUT CERTOUT`
+abbrev pub SolveGives : List ℕ → ℕ → (plan certificate : List ℕ) → Files → Result Reply Fault → Type 0
+SolveGives network budget plan certificate files outcome = Follows (searchable_in files network budget) (IsSearchReply budget plan certificate) outcome
+
 -- which outcome the files deserve of a command: a reply, or the first fault in the order of judging
 abbrev pub Deserves : Command → Files → Result Reply Fault → Type 0
 Deserves (Replay network plan) files outcome = replay_of files network plan ≡ outcome
@@ -228,3 +273,4 @@ Deserves (Program network text) files outcome = program_in files network text �
 Deserves (Encode network plan text) files outcome = encode_in files network plan text ≡ outcome
 Deserves (Check network certificate) files outcome = CheckGives network certificate files outcome
 Deserves (Gap network plan certificate) files outcome = GapGives network plan certificate files outcome
+Deserves (Solve network budget plan certificate) files outcome = SolveGives network budget plan certificate files outcome

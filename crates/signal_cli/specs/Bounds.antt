@@ -1,6 +1,6 @@
 -- What a run promises of a bound that it prints (README.md, "What is proved"). Whoever wants to believe a bound reads this, and what it
 -- names: which network the bytes of a file spell, which plans of it are admissible, and the delay of a plan.
-use Rattle.std.specs.Prelude.{◌≡◌, ℕ, ℤ, pos, ◌≤ℤ◌, List, Option, Some, Ok}
+use Rattle.std.specs.Prelude.{◌≡◌, ℕ, ℤ, pos, ◌≤ℤ◌, List, Some, Ok}
 use Rattle.shelf_io.specs.Told.{Files, bytes_of, with_taken}
 use Rattle.ct_base.specs.declared.net.Net.{Net}
 use Rattle.ct_base.specs.declared.plan.Plan.{Plan}
@@ -10,7 +10,6 @@ use Rattle.named_net.specs.Naming.{Named}
 use Rattle.cell_build.specs.Spelled.{spelled_network}
 use Rattle.plan_file.specs.Spelled.{spelled_plan}
 use Rattle.signal_cli.specs.BoundLines.{accepted_lines, gap_lines}
-use Rattle.signal_cli.specs.Commands.{Check, Command, Gap}
 use Rattle.signal_cli.specs.Worlds.{ForFiles, World}
 
 -- the delay of a plan of a network over its whole horizon
@@ -47,9 +46,3 @@ pub record PutsGap (network plan : List ℕ) (before after : World) : Type 0 whe
   pub bound : ℤ
   pub put : after.out ≡ with_taken before.out (gap_lines delay bound)
   pub safe : ForFiles before.shelf.files (IsGap network plan delay bound)
-
--- a run of `check` or `gap` that ends with status 0 put a bound that is safe
-abbrev pub IsSound : Option Command → World → World → ℕ → Type 0
-IsSound (Some (Check network certificate)) before after status = status ≡ 0 → PutsBound network before after
-IsSound (Some (Gap network plan certificate)) before after status = status ≡ 0 → PutsGap network plan before after
-IsSound _ before after status = Unit {0}

@@ -1,7 +1,8 @@
 -- What the words of a command line ask for (README.md, "Commands").
-use Rattle.std.specs.Prelude.{ℕ, Bool, true, false, ◌&&◌, not, if◌then◌else◌, List, [], ◌∷◌, ◌++◌, Option, Some, None, codes}
+use Rattle.std.specs.Prelude.{ℕ, Bool, true, false, ◌&&◌, not, nat_le, if◌then◌else◌, List, [], ◌∷◌, ◌++◌, Option, Some, None, option_map, codes}
 use Rattle.std.specs.List.{list_any}
 use Rattle.std.specs.Str.{bytes_eq}
+use Rattle.texts.specs.Numbers.{natural_in}
 
 -- a command with the names of its files
 pub data Command : Type 0 where
@@ -11,6 +12,7 @@ pub data Command : Type 0 where
   Encode : (network plan text : List ℕ) → Command
   Check : (network certificate : List ℕ) → Command
   Gap : (network plan certificate : List ℕ) → Command
+  Solve : (network : List ℕ) (budget : ℕ) (plan certificate : List ℕ) → Command
 
 -- the files of a command that are read, in the order of reading
 abbrev pub inputs_of : Command → List (List ℕ)
@@ -21,6 +23,7 @@ inputs_of (Program network text) = network ∷ []
 inputs_of (Encode network plan text) = network ∷ plan ∷ []
 inputs_of (Check network certificate) = network ∷ certificate ∷ []
 inputs_of (Gap network plan certificate) = network ∷ plan ∷ certificate ∷ []
+inputs_of (Solve network budget plan certificate) = network ∷ []
 
 -- the files of a command that are written, in the order of writing
 abbrev pub outputs_of : Command → List (List ℕ)
@@ -30,6 +33,7 @@ outputs_of (Program network text) = text ∷ []
 outputs_of (Encode network plan text) = text ∷ []
 outputs_of (Check network certificate) = []
 outputs_of (Gap network plan certificate) = []
+outputs_of (Solve network budget plan certificate) = plan ∷ certificate ∷ []
 
 -- the name has no byte
 abbrev pub is_empty : List ℕ → Bool
@@ -40,6 +44,15 @@ is_empty (byte ∷ bytes) = false
 abbrev pub are_names : List (List ℕ) → Bool
 are_names [] = true
 are_names (name ∷ names) = not (is_empty name) && (not (list_any (bytes_eq name) names) && are_names names)
+
+-- a budget of nodes is at least 1, and has 32 bits
+abbrev pub allowed : Option ℕ → Option ℕ
+allowed None = None
+allowed (Some nodes) = if nat_le 1 nodes && nat_le nodes 4294967295 then Some nodes else None
+
+-- the budget that a word names: a number of one spelling
+abbrev pub budget_in : List ℕ → Option ℕ
+budget_in word = allowed (natural_in 10 word)
 
 -- the command whose form the words have, whatever its files are called
 abbrev pub form_of : List (List ℕ) → Option Command
@@ -52,6 +65,8 @@ form_of (command ∷ network ∷ plan ∷ third ∷ []) =
     if bytes_eq command (codes "trace") then Some (Trace network plan third) else
     (if bytes_eq command (codes "encode") then Some (Encode network plan third) else
     (if bytes_eq command (codes "gap") then Some (Gap network plan third) else None))
+form_of (command ∷ network ∷ budget ∷ plan ∷ certificate ∷ []) =
+    if bytes_eq command (codes "solve") then option_map (λ (budget : ℕ). Solve network budget plan certificate) (budget_in budget) else None
 form_of _ = None
 
 -- a command whose files have names that differ

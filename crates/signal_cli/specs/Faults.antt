@@ -1,4 +1,4 @@
--- The faults of a network, of a plan and of a network's size as those of the program, the status of a reply, and the status and the line of each fault (README.md, "Statuses").
+-- The faults of a network, of a plan, of a network's size and of a search as those of the program, the status of a reply, and the status and the line of each fault (README.md, "Statuses").
 use Rattle.std.specs.Prelude.{ℕ, if◌then◌else◌, List, [], ◌∷◌, ◌++◌, Result, Ok, Err, codes}
 use Rattle.std.specs.Fmt.{decimal}
 use Rattle.cell_build.specs.declared.network_fault.NetworkFault.{NetworkFault}
@@ -7,6 +7,8 @@ use Rattle.plan_file.specs.declared.fault.PlanFault.{PlanFault}
 use Rattle.plan_file.specs.declared.fault.PlanFault.TheVariants as unplanned
 use Rattle.lo_program.specs.declared.fault.CompileFault.{CompileFault}
 use Rattle.lo_program.specs.declared.fault.CompileFault.TheVariants as uncompiled
+use Rattle.solve_core.specs.declared.fault.SolveFault.{SolveFault}
+use Rattle.solve_core.specs.declared.fault.SolveFault.TheVariants as unsolved
 use Rattle.fault_words.specs.Words.{network_text, plan_text}
 use Rattle.signal_cli.specs.declared.fault.Fault.{Fault}
 use Rattle.signal_cli.specs.declared.fault.Fault.TheVariants.{NetworkLong, Network, PlanLong, Plan, TooLarge, Read, Memory}
@@ -26,6 +28,12 @@ unplanned_of fault = Plan fault
 abbrev pub uncompiled_of : CompileFault → Fault
 uncompiled_of (uncompiled.TooLarge rows) = TooLarge rows
 uncompiled_of uncompiled.Memory = Memory
+
+-- why there is no search, as a fault of the planner: a budget that is too great for the rows of a program is told by their number too
+abbrev pub unsolved_of : SolveFault → Fault
+unsolved_of (unsolved.TooLarge rows) = TooLarge rows
+unsolved_of (unsolved.Budget rows) = TooLarge rows
+unsolved_of unsolved.Memory = Memory
 
 -- 0, or 1 where a file is not accepted
 abbrev pub reply_status : Reply → ℕ

@@ -7,5 +7,7 @@ pub mod Faults
 pub mod Program
 pub mod Promises
 pub mod RejectionLines
+pub mod Searches
+pub mod Sound
 pub mod Worlds
 pub mod inner

@@ -1,11 +1,15 @@
 //! What the words of a command line ask for.
 
-ghost use Rattle.std.specs.Prelude.{◌≡◌, [], ◌∷◌, ◌++◌, IfSome, true, option_map};
-ghost use Rattle.signal_cli.specs.Commands.{command_of, form_of, inputs_of, outputs_of};
+ghost use Rattle.std.specs.Prelude.{◌≡◌, ◌≤◌, [], ◌∷◌, ◌++◌, IfSome, true, option_map};
+ghost use Rattle.signal_cli.specs.Commands.{budget_in, command_of, form_of, inputs_of, outputs_of};
 ghost use Rattle.signal_cli.specs.Commands as said;
-ghost use Rattle.signal_cli.specs.inner.CommandViews.{view_of};
+ghost use Rattle.signal_cli.specs.inner.CommandViews.{HasBudget, view_of};
 
 use shelf_io::{Text, Words};
+use texts::natural;
+
+/// The most digits of a budget.
+const BUDGET_DIGITS: usize = 10;
 
 /// A command with the names of its files.
 #[derive(Clone, Copy)]
@@ -43,12 +47,20 @@ pub enum Command<'a> {
         plan: &'a str,
         certificate: &'a str,
     },
+    /// A plan and a certificate, found by a search of at most so many nodes and written to two files.
+    Solve {
+        network: &'a str,
+        budget: u32,
+        plan: &'a str,
+        certificate: &'a str,
+    },
 }
 
 /// The command that the words ask for, or none where they are of no form.
 pub fn parse(words: &Words) -> Option<Command<'_>>
     ensures value { option_map view_of result ≡ command_of words.now }
     ensures names { IfSome result (λ command. said.are_names (inputs_of (view_of command) ++ outputs_of (view_of command)) ≡ true) }
+    ensures budget { IfSome result HasBudget }
 {
     let command = form(words.as_slice())?;
     if has_names(&command) {
@@ -60,7 +72,8 @@ pub fn parse(words: &Words) -> Option<Command<'_>>
 
 /// The command whose form the words have, whatever its files are called.
 fn form(words: &[Text]) -> Option<Command<'_>>
-    ensures { option_map view_of result ≡ form_of words.now }
+    ensures value { option_map view_of result ≡ form_of words.now }
+    ensures budget { IfSome result HasBudget }
 {
     match words {
         [command, network] if command.as_str() == "replay" => Some(Command::Replay {
@@ -94,7 +107,45 @@ fn form(words: &[Text]) -> Option<Command<'_>>
             plan: plan.as_str(),
             certificate: certificate.as_str(),
         }),
+        [command, network, budget, plan, certificate] if command.as_str() == "solve" => search(
+            network.as_str(),
+            budget.as_str(),
+            plan.as_str(),
+            certificate.as_str(),
+        ),
         _ => None,
+    }
+}
+
+/// The search whose words these are, if the second is a budget.
+fn search<'a>(
+    network: &'a str,
+    budget: &str,
+    plan: &'a str,
+    certificate: &'a str,
+) -> Option<Command<'a>>
+    ensures value { option_map view_of result ≡ option_map (λ nodes. said.Solve network.now nodes plan.now certificate.now) (budget_in budget.now) }
+    ensures budget { IfSome result HasBudget }
+{
+    let budget = budget_of(budget)?;
+    Some(Command::Solve {
+        network,
+        budget,
+        plan,
+        certificate,
+    })
+}
+
+/// The budget of nodes that a word names.
+fn budget_of(word: &str) -> Option<u32>
+    ensures value { result ≡ budget_in word.now }
+    ensures some { IfSome result (λ nodes. 1 ≤ nodes) }
+{
+    let nodes = natural(word.as_bytes(), BUDGET_DIGITS)?;
+    if 1 <= nodes && nodes <= u64::from(u32::MAX) {
+        Some(nodes as u32)
+    } else {
+        None
     }
 }
 
@@ -130,6 +181,12 @@ fn has_names(command: &Command<'_>) -> bool
             network,
             plan,
             certificate,
+        } => are_three_names(network, plan, certificate),
+        Command::Solve {
+            network,
+            plan,
+            certificate,
+            ..
         } => are_three_names(network, plan, certificate),
     }
 }

@@ -4,7 +4,7 @@ ghost use Rattle.std.specs.Prelude.{◌≡◌, ◌++◌, true};
 ghost use Rattle.signal_cli.specs.Answers.{Deserves};
 ghost use Rattle.signal_cli.specs.inner.Causes.{Finds};
 ghost use Rattle.signal_cli.specs.Commands.{are_names, inputs_of, outputs_of};
-ghost use Rattle.signal_cli.specs.inner.CommandViews.{view_of};
+ghost use Rattle.signal_cli.specs.inner.CommandViews.{HasBudget, view_of};
 
 mod check;
 mod encode;
@@ -12,6 +12,7 @@ mod gap;
 mod program;
 mod rejection;
 mod replay;
+mod solve;
 mod trace;
 
 use crate::command::Command;
@@ -22,7 +23,8 @@ use std::alloc::Global;
 
 /// What the files of a command deserve. It reads them, each judged before the next is read, and writes nothing.
 pub fn answer<F: Shelf>(alloc: Global, command: Command<'_>, shelf: &mut F) -> Result<Reply, Fault>
-    requires { are_names (inputs_of (view_of command) ++ outputs_of (view_of command)) ≡ true }
+    requires names { are_names (inputs_of (view_of command) ++ outputs_of (view_of command)) ≡ true }
+    requires budget { HasBudget command }
     ensures { Finds (Deserves (view_of command.entry)) result (F.state shelf.old) (F.state shelf.new) }
 {
     match command {
@@ -47,5 +49,11 @@ pub fn answer<F: Shelf>(alloc: Global, command: Command<'_>, shelf: &mut F) -> R
             plan,
             certificate,
         } => gap::gap(alloc, network, plan, certificate, shelf),
+        Command::Solve {
+            network,
+            budget,
+            plan,
+            certificate,
+        } => solve::solve(alloc, network, budget, plan, certificate, shelf),
     }
 }

@@ -1,7 +1,7 @@
 //! Why a command was not done, and the status that it ends with.
 
 ghost use Rattle.std.specs.Prelude.{◌≡◌};
-ghost use Rattle.signal_cli.specs.Faults.{uncompiled_of, unplanned_of, unspelled_of};
+ghost use Rattle.signal_cli.specs.Faults.{uncompiled_of, unplanned_of, unsolved_of, unspelled_of};
 ghost use Rattle.signal_cli.specs.Faults.{status_of};
 ghost use Rattle.signal_cli.specs.declared.fault.Fault.TheVariants as fault;
 
@@ -9,6 +9,7 @@ use cell_build::NetworkFault;
 use ct_base::Memory;
 use lo_program::CompileFault;
 use plan_file::PlanFault;
+use solve_core::SolveFault;
 use std::alloc::AllocError;
 
 /// A cause that ends a command before its answer is written.
@@ -22,7 +23,7 @@ pub enum Fault {
     PlanLong,
     /// The plan file spells no plan for the network, or the network wants a plan.
     Plan(PlanFault),
-    /// The network's program has so many rows, more than are held.
+    /// The network's program has so many rows, more than are held, or too many for the budget of a search.
     TooLarge(u64),
     /// A read failed, or a file is not there.
     Read,
@@ -74,6 +75,17 @@ impl From<CompileFault> for Fault {
         match fault {
             CompileFault::TooLarge(rows) => Fault::TooLarge(rows),
             CompileFault::Memory => Fault::Memory,
+        }
+    }
+}
+
+impl From<SolveFault> for Fault {
+    ghost from_gives = { λ fault made. made ≡ unsolved_of fault };
+
+    fn from(fault: SolveFault) -> Fault {
+        match fault {
+            SolveFault::TooLarge(rows) | SolveFault::Budget(rows) => Fault::TooLarge(rows),
+            SolveFault::Memory => Fault::Memory,
         }
     }
 }

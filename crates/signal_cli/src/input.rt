@@ -4,7 +4,8 @@ ghost use Rattle.std.specs.Prelude.{◌≡◌, [], false, Err, IfErr, IfOk, OnOk
 ghost use Rattle.std.specs.Str.{bytes_eq};
 ghost use Rattle.traffic_model.specs.Runs.{IsAdmissiblePlan};
 ghost use Rattle.lo_program.specs.Compiled.{size_faults};
-ghost use Rattle.signal_cli.specs.Answers.{content_in, network, network_from, network_in, plan, plan_from, plan_in, planned_in, sized, sized_in, sized_planned_in};
+ghost use Rattle.solve_core.specs.Solved.{solve_faults};
+ghost use Rattle.signal_cli.specs.Answers.{content_in, network, network_from, network_in, plan, plan_from, plan_in, planned_in, searchable, searchable_in, sized, sized_in, sized_planned_in};
 ghost use Rattle.signal_cli.specs.inner.Causes.{Finds, Gives, ended_as};
 ghost use Rattle.limits.specs.declared.TheConstants.{MAX_FILE_BYTES};
 ghost use Rattle.signal_cli.specs.declared.fault.Fault.TheVariants as fault;
@@ -59,6 +60,31 @@ fn refuse_large(named: &NamedNet) -> Result<(), Fault>
     ensures exact { IfErr result (λ fault. sized named.now ≡ Err fault) }
 {
     judge_size(named.net())?;
+    Ok(())
+}
+
+/// The network in a file whose program is not too large, also for a search within a budget of nodes, or why there is none.
+pub fn read_searchable<F: Shelf>(
+    alloc: Global,
+    shelf: &mut F,
+    name: &str,
+    budget: u32,
+) -> Result<NamedNet, Fault>
+    ensures found { Finds (λ files outcome. searchable_in files name.now budget ≡ outcome) result (F.state shelf.old) (F.state shelf.new) }
+    ensures small { IfOk result (λ named. solve_faults named.net budget ≡ []) }
+{
+    let named = read_network(alloc, shelf, name)?;
+    refuse_unsearchable(&named, budget)?;
+    Ok(named)
+}
+
+/// Refuses a network whose program is too large, or whose rows are too many for a budget of nodes.
+fn refuse_unsearchable(named: &NamedNet, budget: u32) -> Result<(), Fault>
+    ensures small { OnOk result (solve_faults named.now.net budget ≡ []) }
+    ensures large { IfErr result (λ fault. Gives (Err fault) (searchable budget named.now)) }
+    ensures exact { IfErr result (λ fault. searchable budget named.now ≡ Err fault) }
+{
+    solve_core::judge(named.net(), budget)?;
     Ok(())
 }
 

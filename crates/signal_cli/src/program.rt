@@ -5,10 +5,10 @@ ghost use Rattle.std.specs.Process.{exit_status};
 ghost use Rattle.std.specs.Vec.Iter.{into_iter_items};
 ghost use Rattle.std.specs.IoError.{error_kind};
 ghost use Rattle.signal_cli.specs.Accepted.{IsExact};
-ghost use Rattle.signal_cli.specs.Bounds.{IsSound};
 ghost use Rattle.signal_cli.specs.Commands.{command_of};
 ghost use Rattle.signal_cli.specs.Program.{EndsAtOnce};
 ghost use Rattle.signal_cli.specs.Promises.{Keeps};
+ghost use Rattle.signal_cli.specs.Sound.{IsSound};
 ghost use Rattle.signal_cli.specs.Worlds.{world};
 
 use crate::top_call::run;
@@ -24,6 +24,7 @@ const WANT_OF_MEMORY: u8 = 8;
 
 /// Runs the program on what the host gives as its arguments, of which the first is its name, and answers the status that it
 /// ends with.
+#[tactic(auto, using(crate::proofs::BoundPromises::sound_at_8, crate::proofs::BoundPromises::exact_at_8))]
 pub fn planner<F: Shelf, K: Sink>(
     alloc: Global,
     args: io::Result<Args>,

@@ -54,4 +54,23 @@ impl Reply {
             outputs,
         })
     }
+
+    /// Two files, and then lines.
+    pub fn both_filed(
+        alloc: Global,
+        first: File,
+        second: File,
+        lines: Text,
+    ) -> Result<Reply, Memory>
+        ensures { IfOk result (λ reply. reply ≡ said.both_filed first second lines) }
+    {
+        let mut outputs = Listed::new(alloc);
+        outputs.push(first)?;
+        outputs.push(second)?;
+        Ok(Reply {
+            rejected: false,
+            lines,
+            outputs,
+        })
+    }
 }

@@ -8,5 +8,6 @@ mod plan_texts;
 mod plans;
 mod programs;
 mod runs;
+mod searches;
 mod traces;
 mod world;

@@ -2,9 +2,9 @@
 //! printed lines and the status.
 
 ghost use Rattle.signal_cli.specs.Accepted.{IsExact};
-ghost use Rattle.signal_cli.specs.Bounds.{IsSound};
 ghost use Rattle.signal_cli.specs.Commands.{command_of};
 ghost use Rattle.signal_cli.specs.Promises.{Keeps};
+ghost use Rattle.signal_cli.specs.Sound.{IsSound};
 ghost use Rattle.signal_cli.specs.Worlds.{world};
 
 use crate::command::parse;

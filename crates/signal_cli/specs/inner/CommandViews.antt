@@ -1,8 +1,9 @@
 -- A command of the program as one of the promises.
+use Rattle.std.specs.Prelude.{◌≤◌}
 use Rattle.std.specs.Option.{option_copied}
 use Rattle.signal_cli.specs.Commands as said
 use Rattle.signal_cli.specs.declared.command.Command.{Command}
-use Rattle.signal_cli.specs.declared.command.Command.TheVariants.{Check, Encode, Gap, Program, Replay, Trace}
+use Rattle.signal_cli.specs.declared.command.Command.TheVariants.{Check, Encode, Gap, Program, Replay, Solve, Trace}
 
 -- the command with the bytes of its names
 abbrev pub view_of : Command → said.Command
@@ -12,3 +13,9 @@ view_of (Program network text) = said.Program network.now text.now
 view_of (Encode network plan text) = said.Encode network.now plan.now text.now
 view_of (Check network certificate) = said.Check network.now certificate.now
 view_of (Gap network plan certificate) = said.Gap network.now plan.now certificate.now
+view_of (Solve network budget plan certificate) = said.Solve network.now budget plan.now certificate.now
+
+-- a search has a budget of at least one node
+abbrev pub HasBudget : Command → Type 0
+HasBudget (Solve network budget plan certificate) = 1 ≤ budget
+HasBudget command = Unit {0}

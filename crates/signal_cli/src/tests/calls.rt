@@ -33,7 +33,7 @@ const RUNS: &[(&[&str], u8, &str)] = &[
     (&["program", "crossing", "out", "more"], 2, "words\n"),
     (&["check", "crossing"], 2, "words\n"),
     (&["gap", "crossing", "plan"], 2, "words\n"),
-    (&["solve", "crossing", "1", "out", "proof"], 2, "words\n"),
+    (&["solve", "crossing", "1", "out"], 2, "words\n"),
     (&["demo", "7"], 2, "words\n"),
     (&["replay", "nothing"], 6, "read fault\n"),
     (&["replay", "nothing", "plan"], 6, "read fault\n"),

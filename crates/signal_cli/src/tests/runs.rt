@@ -20,7 +20,7 @@ pub type Run = (
 );
 
 /// The calls in their order, each followed by a comma. A read asks for 65,536 bytes.
-fn told(rt: &impl Abort, alloc: Global, calls: &[Call]) -> Result<String, AllocError> {
+pub fn told(rt: &impl Abort, alloc: Global, calls: &[Call]) -> Result<String, AllocError> {
     let mut text = String::new(alloc);
     for call in calls {
         let line = match call {

@@ -17,3 +17,6 @@ returns-in-Check g c = rw c.in-Check.is c.check.ensures
 
 pub returns-in-Gap : goal.returns-in-Gap
 returns-in-Gap g c = rw c.in-Gap.is c.gap.ensures
+
+pub returns-in-Solve : goal.returns-in-Solve
+returns-in-Solve g c = rw c.in-Solve.is c.solve.ensures

@@ -15,4 +15,4 @@ returns-in-Some g c =
     let after = world (g.F.Shelf.state c.carry_out.new.shelf) (g.K.Sink.state c.carry_out.new.out) in
     let command = view_of c.in-Some.command in
     let kept = keeps (Deserves command) (outputs_of command) (outputs_are_named command) before after c.answer-found.result (g.F.Shelf.state c.answer-found.new.shelf) c.carry_out.result c.answer-found.ensures c.carry_out.ensures in
-    rw (← c.in-Some.ensures.value) (record { keeps = kept; sound = is_sound (Some command) before after c.carry_out.result kept; exact = is_exact (Some command) before after c.carry_out.result kept })
+    rw (← c.in-Some.ensures.value) (record { keeps = kept; sound = is_sound command before after c.carry_out.result c.in-Some.ensures.names kept; exact = is_exact (Some command) before after c.carry_out.result kept })

@@ -1,0 +1,14 @@
+-- What a run promises of a bound that it prints, and of a plan (README.md, "What is proved").
+use Rattle.std.specs.Prelude.{◌≡◌, ℕ, Option, Some}
+use Rattle.signal_cli.specs.Bounds.{PutsBound, PutsGap}
+use Rattle.signal_cli.specs.Commands.{Check, Command, Gap, Solve}
+use Rattle.signal_cli.specs.Searches.{PutsPlan}
+use Rattle.signal_cli.specs.Worlds.{World}
+
+-- a run of `check` or `gap` that ends with status 0 put a bound that is safe; and one of `solve` wrote a plan and a certificate of such
+-- a bound
+abbrev pub IsSound : Option Command → World → World → ℕ → Type 0
+IsSound (Some (Check network certificate)) before after status = status ≡ 0 → PutsBound network before after
+IsSound (Some (Gap network plan certificate)) before after status = status ≡ 0 → PutsGap network plan before after
+IsSound (Some (Solve network budget plan certificate)) before after status = status ≡ 0 → PutsPlan network budget plan certificate before after
+IsSound _ before after status = Unit {0}
