@@ -30,7 +30,7 @@ use Rattle.seed_prices.specs.Seed.{seed_of}
 use Rattle.branch_tree.specs.Boxes.{box_of}
 use Rattle.branch_tree.specs.OpenTree.{is_open, size}
 use Rattle.solve_core.specs.Earned.{AreWorked, GivesDelay, value_in}
-use Rattle.solve_core.specs.Growth.{IsReached}
+use Rattle.solve_core.specs.Searched.{IsReached}
 use Rattle.solve_core.specs.inner.PricePairs.{pairs_below}
 use Rattle.solve_core.specs.inner.Searching.{CanClose, IsSearching}
 use Rattle.solve_core.specs.declared.search.Search.{Search}

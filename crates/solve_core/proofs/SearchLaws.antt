@@ -17,7 +17,8 @@ use Rattle.plan_rounding.specs.declared.replays.ReplayedPlan.{ReplayedPlan}
 use Rattle.branch_tree.specs.Boxes.{Growing, IsGrowing, box_of, closed_at, split_at}
 use Rattle.branch_tree.specs.OpenTree.{has, is_open, size, times}
 use Rattle.search_model.specs.LeafNumbers.{GivesNumber}
-use Rattle.solve_core.specs.Growth.{IsClosedWell, IsReached, IsTreeOf}
+use Rattle.solve_core.specs.Growth.{IsClosedWell, IsTreeOf}
+use Rattle.solve_core.specs.Searched.{IsReached}
 use Rattle.solve_core.specs.Solved.{IsFound}
 use Rattle.solve_core.specs.inner.Searching.{CanClose, IsSearching, Stands, lesser_of}
 use Rattle.solve_core.specs.declared.search.Search.{Search}

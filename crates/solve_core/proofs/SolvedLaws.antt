@@ -14,8 +14,8 @@ use Rattle.branch_tree.specs.OpenTree.{OpenTree, closed_of, size}
 use Rattle.plan_rounding.specs.Replayed.{delay_in}
 use Rattle.solve_core.proofs.ShapeLaws.{nodes_of_shape}
 use Rattle.solve_core.proofs.WholeLaws.{shape_is}
-use Rattle.solve_core.specs.Growth.{IsReached, IsSpent, IsTreeOf}
-use Rattle.solve_core.specs.Searched.{IsSearched}
+use Rattle.solve_core.specs.Growth.{IsTreeOf}
+use Rattle.solve_core.specs.Searched.{IsReached, IsSearched, IsSpent}
 use Rattle.solve_core.specs.Solved.{IsFound, IsSolved}
 use Rattle.solve_core.specs.declared.solved.Solved.{Solved}
 use Rattle.solve_core.specs.declared.solved.State.{State}

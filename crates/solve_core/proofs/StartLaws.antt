@@ -14,7 +14,8 @@ use Rattle.branch_tree.specs.OpenTree.{Open, has, size}
 use Rattle.plan_rounding.specs.Named.{named_plan}
 use Rattle.plan_rounding.specs.Replayed.{IsReplayed, delay_in}
 use Rattle.plan_rounding.specs.declared.replays.ReplayedPlan.{ReplayedPlan}
-use Rattle.solve_core.specs.Growth.{IsReached, IsTreeOf, no_number}
+use Rattle.solve_core.specs.Growth.{IsTreeOf, no_number}
+use Rattle.solve_core.specs.Searched.{IsReached}
 use Rattle.solve_core.specs.Solved.{IsFound}
 use Rattle.solve_core.specs.inner.Searching.{IsSearching, IsTask, Stands}
 use Rattle.solve_core.specs.declared.search.Search.{Search}

@@ -19,7 +19,8 @@ use Rattle.search_model.specs.Splits.{AreFirstSplits, HasBits, IsFirstUnfixed, u
 use Rattle.search_model.proofs.BitLaws.{root_has_bits}
 use Rattle.search_model.proofs.SplitLaws.{room_for_more}
 use Rattle.solve_core.specs.Earned.{GivesDelay, IsEarned}
-use Rattle.solve_core.specs.Growth.{IsClosedWell, IsReached, IsTreeOf, no_number}
+use Rattle.solve_core.specs.Growth.{IsClosedWell, IsTreeOf, no_number}
+use Rattle.solve_core.specs.Searched.{IsReached}
 use Rattle.solve_core.specs.Shapes.{ClosedGives, open_leaves, shape_of}
 use Rattle.solve_core.proofs.ShapeLaws.{at_most_once, firsts_replaced, good_for_less, open_leaf_stands, opens_of_all, opens_once}
 use Rattle.solve_core.proofs.ShapeLaws.{given_closed, given_replaced, nodes_of_shape, open_leaves_replaced, size_closed}

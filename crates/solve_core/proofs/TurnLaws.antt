@@ -7,7 +7,7 @@ use Rattle.program_model.specs.Numbers.{plan_count}
 use Rattle.program_model.specs.Points.{program_of}
 use Rattle.branch_tree.specs.Boxes.{Growing}
 use Rattle.branch_tree.specs.OpenTree.{size}
-use Rattle.solve_core.specs.Growth.{IsReached, IsSpent}
+use Rattle.solve_core.specs.Searched.{IsReached, IsSpent}
 
 -- the plan columns of a network's program
 pub plan_columns_are : (net : Net) (program : Parts) → program ≡ program_of net → program.plan_cols ≡ plan_count net

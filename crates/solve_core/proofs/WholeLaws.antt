@@ -40,8 +40,8 @@ use Rattle.search_model.proofs.BitLaws.{root_has_bits}
 use Rattle.search_model.proofs.NumberLaws.{least_number_is_certified, number_below_delay}
 use Rattle.solve_core.proofs.ShapeLaws.{nodes_of_shape}
 use Rattle.solve_core.specs.Earned.{IsEarned}
-use Rattle.solve_core.specs.Growth.{IsClosedWell, IsReached, IsTreeOf, no_number}
-use Rattle.solve_core.specs.Searched.{IsSearched}
+use Rattle.solve_core.specs.Growth.{IsClosedWell, IsTreeOf, no_number}
+use Rattle.solve_core.specs.Searched.{IsReached, IsSearched}
 use Rattle.solve_core.specs.Shapes.{ClosedGives, shape_of}
 use Rattle.solve_core.specs.declared.constants.TheConstants.{MAX_WORK}
 use Rattle.solve_core.proofs.TextLaws.{fits}

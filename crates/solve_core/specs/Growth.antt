@@ -1,5 +1,5 @@
 -- What a tree keeps while a search grows it (docs/search.md, "The tree").
-use Rattle.std.specs.Prelude.{◌≡◌, ◌⊎◌, ℕ, ◌+◌, ◌<◌, ◌≤◌, ◌^◌, ℤ, pos, ◌≤ℤ◌}
+use Rattle.std.specs.Prelude.{◌≡◌, ◌⊎◌, ℕ, ◌≤◌, ◌^◌, ℤ, pos, ◌≤ℤ◌}
 use Rattle.ct_base.specs.declared.net.Net.{Net}
 use Rattle.sparse_program.specs.Box.{Ranges}
 use Rattle.certificate_model.specs.Certificates.{root_of}
@@ -7,7 +7,7 @@ use Rattle.certificate_model.specs.Tree.{Leaf}
 use Rattle.branch_tree.specs.Boxes.{AreGood, Growing, IsGrowing}
 use Rattle.branch_tree.specs.OpenTree.{size}
 use Rattle.search_model.specs.LeafNumbers.{GivesNumber, IsLawfulLeaf}
-use Rattle.search_model.specs.Splits.{AreFirstSplits, unfixed_count}
+use Rattle.search_model.specs.Splits.{AreFirstSplits}
 use Rattle.solve_core.specs.Earned.{IsEarned}
 use Rattle.solve_core.specs.Shapes.{ClosedGives, shape_of}
 
@@ -29,12 +29,3 @@ pub record IsTreeOf (net : Net) (budget : ℕ) (delay least : ℤ) (growing : Gr
   pub few : size growing.tree ≤ budget
   pub closed : AreGood (IsClosedWell net delay least) growing.root growing.tree
   pub given : (least ≡ no_number) ⊎ ClosedGives net growing.root growing.tree least
-
--- two more nodes would be above the budget, while some leaf could still be split
-pub record IsSpent (net : Net) (budget nodes : ℕ) : Type 0 where
-  pub full : budget < nodes + 2
-  pub room : nodes + 3 ≤ 2 ^ (unfixed_count net (root_of net) + 1)
-
--- no closed leaf gives less than the delay, or the budget is spent
-abbrev pub IsReached : Net → ℕ → ℤ → ℤ → ℕ → Type 0
-IsReached net budget delay least nodes = (delay ≤ℤ least) ⊎ IsSpent net budget nodes

@@ -1,5 +1,5 @@
 -- What a whole tree shows once a search has ended (docs/search.md, "What open means").
-use Rattle.std.specs.Prelude.{ℕ, ◌≤◌, ℤ, pos, ◌≤ℤ◌, length}
+use Rattle.std.specs.Prelude.{◌⊎◌, ℕ, ◌+◌, ◌<◌, ◌≤◌, ◌^◌, ℤ, pos, ◌≤ℤ◌, length}
 use Rattle.ct_base.specs.declared.net.Net.{Net}
 use Rattle.sparse_program.specs.Box.{Ranges}
 use Rattle.certificate_model.specs.Certificates.{Certifies, root_of}
@@ -8,9 +8,17 @@ use Rattle.certificate_model.specs.Text.{Reads, certificate_text}
 use Rattle.certificate_model.specs.Tree.{IsLeafOf, Leaf, Tree}
 use Rattle.certificate_model.specs.declared.constants.TheConstants.{MAX_CERTIFICATE_BYTES}
 use Rattle.search_model.specs.LeafNumbers.{IsLeastGiven}
-use Rattle.search_model.specs.Splits.{AreFirstSplits}
+use Rattle.search_model.specs.Splits.{AreFirstSplits, unfixed_count}
 use Rattle.solve_core.specs.Earned.{IsEarned}
-use Rattle.solve_core.specs.Growth.{IsReached}
+
+-- two more nodes would be above the budget, while some leaf could still be split
+pub record IsSpent (net : Net) (budget nodes : ℕ) : Type 0 where
+  pub full : budget < nodes + 2
+  pub room : nodes + 3 ≤ 2 ^ (unfixed_count net (root_of net) + 1)
+
+-- no closed leaf gives less than the delay, or the budget is spent
+abbrev pub IsReached : Net → ℕ → ℤ → ℤ → ℕ → Type 0
+IsReached net budget delay least nodes = (delay ≤ℤ least) ⊎ IsSpent net budget nodes
 
 -- a tree certifies a bound, which is the least number that one of its leaves gives and at most a delay that was reached; its text is
 -- accepted and no longer than a certificate may be; it was grown within a budget, each split at 0 on the first plan column that its box

@@ -16,8 +16,8 @@ ghost use Rattle.branch_tree.specs.OpenTree.{Open, closed_of, has, is_open, size
 ghost use Rattle.sparse_program.specs.declared.limits.TheConstants.{MAX_ROWS};
 ghost use Rattle.search_model.specs.LeafNumbers.{GivesNumber};
 ghost use Rattle.search_model.specs.Splits.{HasBits, IsFirstUnfixed, unfixed_count};
-ghost use Rattle.solve_core.specs.Growth.{IsClosedWell, IsReached, IsTreeOf, no_number};
-ghost use Rattle.solve_core.specs.Searched.{IsSearched};
+ghost use Rattle.solve_core.specs.Growth.{IsClosedWell, IsTreeOf, no_number};
+ghost use Rattle.solve_core.specs.Searched.{IsReached, IsSearched};
 ghost use Rattle.solve_core.specs.Shapes.{open_leaves};
 ghost use Rattle.solve_core.specs.declared.constants.TheConstants.{MAX_WORK};
 

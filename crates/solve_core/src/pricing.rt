@@ -10,7 +10,7 @@ ghost use Rattle.program_model.specs.Points.{program_of};
 ghost use Rattle.safe_bound.specs.Prices.{ArePrices, price_at};
 ghost use Rattle.seed_prices.specs.Seed.{seed_of};
 ghost use Rattle.solve_core.specs.Earned.{AreWorked, value_in};
-ghost use Rattle.solve_core.specs.Growth.{IsReached};
+ghost use Rattle.solve_core.specs.Searched.{IsReached};
 ghost use Rattle.solve_core.specs.inner.Searching.{ClosesOne, IsSearching, IsTask, KeepsTree};
 
 use crate::pairs::pairs_of;

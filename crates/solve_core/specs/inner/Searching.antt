@@ -12,7 +12,8 @@ use Rattle.kept_value.specs.Kept.{IsKeptOf}
 use Rattle.branch_tree.specs.Boxes.{box_of}
 use Rattle.branch_tree.specs.OpenTree.{has, is_open, size}
 use Rattle.search_model.specs.LeafNumbers.{GivesNumber}
-use Rattle.solve_core.specs.Growth.{IsClosedWell, IsReached, IsTreeOf}
+use Rattle.solve_core.specs.Growth.{IsClosedWell, IsTreeOf}
+use Rattle.solve_core.specs.Searched.{IsReached}
 use Rattle.solve_core.specs.declared.constants.TheConstants.{MAX_WORK}
 use Rattle.solve_core.specs.Shapes.{open_leaves}
 use Rattle.solve_core.specs.Solved.{IsFound}

@@ -1,7 +1,7 @@
 use Rattle.certificate_model.specs.Reasons.{IsUnfixed}
 use Rattle.branch_tree.specs.Boxes.{box_of}
 use Rattle.branch_tree.specs.OpenTree.{size}
-use Rattle.solve_core.specs.Growth.{IsSpent}
+use Rattle.solve_core.specs.Searched.{IsSpent}
 use Rattle.solve_core.proofs.TurnLaws.{spent_is_reached}
 use Rattle.solve_core.proofs.running.Running.close_spent.Goals as goal
 
