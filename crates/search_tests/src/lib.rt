@@ -1,4 +1,4 @@
-//! Tests of what a search is made of: each tries what a crate makes public.
+//! Tests of a search and of what it is made of: each tries what a crate makes public.
 #![tactic(auto)]
 
 #[cfg(test)]
@@ -11,5 +11,7 @@ mod networks;
 mod plans;
 #[cfg(test)]
 mod prices;
+#[cfg(test)]
+mod searches;
 #[cfg(test)]
 mod seeds;
