@@ -54,7 +54,7 @@ pub(crate) struct Climb {
 
 impl Climb {
     /// A climb from a plan.
-    fn start(alloc: Global, net: &Net, plan: Plan) -> Result<Climb, Memory>
+    pub(crate) fn start(alloc: Global, net: &Net, plan: Plan) -> Result<Climb, Memory>
         requires valid { IsValid net.now }
         requires admissible { IsAdmissiblePlan net.now plan }
         ensures of { IfOk result (IsClimb net.now) }
@@ -156,5 +156,16 @@ impl Climb {
             self.gained = true;
         }
         Ok(())
+    }
+
+    /// The delay of a plan that is tried.
+    pub(crate) fn delay_of(&mut self, net: &Net, plan: Plan) -> Result<u64, Memory>
+        requires valid { IsValid net.now }
+        requires of { IsClimb net.now self.old }
+        requires admissible { IsAdmissiblePlan net.now plan }
+        ensures { OnOk result (IsClimb net.now self.new) }
+    {
+        self.try_plan(net, plan)?;
+        Ok(self.replay.delay())
     }
 }

@@ -99,7 +99,7 @@ fn word_of(
 
 /// Adds a run whose green is kept within the limits of its phase, and answers which phases may follow. A phase that the signal does
 /// not have adds nothing.
-fn push_within(
+pub(crate) fn push_within(
     word: &mut Word,
     signal: &Signal,
     phase: u8,

@@ -10,10 +10,15 @@ mod naming;
 mod replays;
 mod rounding;
 mod runs;
+mod splits;
+mod starts;
 mod word_change;
 
 pub use climbing::improved;
-pub use constants::{MOST_STEPS_OF_A_CHANGE, TRIES_OF_A_ROUNDING};
+pub use constants::{
+    LEVELS_OF_A_SPLIT, MOST_STEPS_OF_A_CHANGE, PARTS_OF_A_GREEN, STARTS_OF_A_ROUNDING,
+    TRIES_OF_A_ROUNDING, TRIES_OF_A_START,
+};
 pub use naming::named;
 pub use replays::{ReplayedPlan, replayed};
 pub use rounding::round;

@@ -12,8 +12,8 @@ ghost use Rattle.plan_rounding.specs.Replayed.{IsReplayed, delay_in, plan_values
 
 use crate::climbing::improved;
 use crate::constants::TRIES_OF_A_ROUNDING;
-use crate::naming::named;
 use crate::replays::{ReplayedPlan, better};
+use crate::starts::best_of_starts;
 use ct_base::{Memory, Net, Plan};
 use plan_bits::plan_of_bits;
 use program_layout::layout_of;
@@ -22,7 +22,7 @@ use std::alloc::Global;
 /// A plan with its delay, which is no worse than `short`, than `long`, and than the plan whose bits the point has in its plan
 /// columns, where they are an admissible plan's. Any list is a point; a value that is missing counts as 0.
 ///
-/// Each of these plans is improved by itself, and the best is answered.
+/// What the best of some starts is improved to (docs/search.md, "Plans"), and what the plan of the point is, are compared.
 pub fn round(alloc: Global, net: &Net, point: &[i64]) -> Result<ReplayedPlan, Memory>
     requires valid { IsValid net.now }
     ensures of { IfOk result (IsReplayed net.now) }
@@ -31,7 +31,7 @@ pub fn round(alloc: Global, net: &Net, point: &[i64]) -> Result<ReplayedPlan, Me
     ensures point { IfOk result (λ found. (plan : declared.Plan) → IsAdmissiblePlan net.now plan → plan_values net.now point.now ≡ bits_of net.now plan.words →
         found.delay ≤ delay_in net.now plan) }
 {
-    let best = best_of_named(alloc, net)?;
+    let best = best_of_starts(alloc, net)?;
     match plan_at(alloc, net, point)? {
         Some(plan) => {
             let found = improved(alloc, net, plan, TRIES_OF_A_ROUNDING)?;
@@ -39,18 +39,6 @@ pub fn round(alloc: Global, net: &Net, point: &[i64]) -> Result<ReplayedPlan, Me
         }
         None => Ok(best),
     }
-}
-
-/// The better of what `short` and `long` are improved to.
-fn best_of_named(alloc: Global, net: &Net) -> Result<ReplayedPlan, Memory>
-    requires valid { IsValid net.now }
-    ensures of { IfOk result (IsReplayed net.now) }
-    ensures short { IfOk result (λ found. found.delay ≤ delay_in net.now (named_plan net.now false)) }
-    ensures long { IfOk result (λ found. found.delay ≤ delay_in net.now (named_plan net.now true)) }
-{
-    let short = improved(alloc, net, named(alloc, net, false)?, TRIES_OF_A_ROUNDING)?;
-    let long = improved(alloc, net, named(alloc, net, true)?, TRIES_OF_A_ROUNDING)?;
-    Ok(better(short, long))
 }
 
 /// The admissible plan whose bits a point has in its plan columns, or none where they are those of no admissible plan.
