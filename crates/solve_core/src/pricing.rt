@@ -27,7 +27,7 @@ use sparse_program::Program;
 use std::alloc::Global;
 
 impl Search {
-    /// Takes the seed as prices, or other ones where these are worth more over the box, and works on them.
+    /// Takes those of some lists of prices that are worth most over the box, the seed or two others, and works on them.
     pub(crate) fn refine(
         &mut self,
         alloc: Global,
@@ -36,11 +36,13 @@ impl Search {
         budget: u32,
         seed: &[i64],
         other: Option<&[i64]>,
+        further: &[i64],
     ) -> Result<(), Memory>
         requires task { IsTask net.now program.now budget }
         requires searching { IsSearching net.now budget self.old }
         requires seed { seed.now ≡ seed_of net.now }
         requires other { IfSome other (λ prices. ArePrices program.now.rows prices.now) }
+        requires further { ArePrices program.now.rows further.now }
         ensures searching { IsSearching net.now budget self.new }
         ensures keeps { KeepsTree self.old self.new }
         ensures at { self.new.at ≡ self.old.at }
@@ -48,6 +50,7 @@ impl Search {
     {
         seeds_are_lawful();
         take_better(program, &mut self.kept, seed, other);
+        take_dearer(program, &mut self.kept, further);
         raise(alloc, net, program, &mut self.kept, self.best.delay)?;
         Ok(())
     }

@@ -9,6 +9,7 @@ ghost use Rattle.solve_core.specs.inner.Running.{AreLists, IsRunning, turns_left
 ghost use Rattle.solve_core.specs.inner.Searching.{IsSearching, IsTask, KeepsTree};
 ghost use Rattle.solve_core.specs.Earned.{AreWorked};
 
+use crate::constants::{ROUNDS_OF_A_LEAF, ROUNDS_OF_THE_ROOT};
 use crate::laws::unfixed_leaves_have_room;
 use crate::lists::Lists;
 use crate::search::Search;
@@ -16,6 +17,7 @@ use crate::turn::{Turn, next};
 use ct_base::Net;
 use listed::Memory;
 use lo_program::rule_row_count;
+use queue_prices::{Relaxation, Tolls};
 use sparse_program::Program;
 use std::alloc::Global;
 use std::collections::BinaryHeap;
@@ -27,6 +29,7 @@ pub(crate) struct Running {
     /// The leaves that wait, the next one first.
     pub(crate) waiting: BinaryHeap<Turn, Global>,
     pub(crate) lists: Lists,
+    pub(crate) relaxation: Relaxation,
     /// How many more leaves are refined before they are split: as many as there can be.
     pub(crate) refinings: u32,
 }
@@ -119,20 +122,21 @@ impl Running {
         ensures running { OnOk result (IsRunning net.now budget self.new) }
         ensures less { OnOk result (turns_left budget self.new < turns_left budget self.old) }
     {
-        work(
+        let tolls = work(
             alloc,
             net,
             program,
             budget,
             &mut self.search,
             &self.lists,
-            turn.list,
+            &mut self.relaxation,
+            &turn,
         )?;
         if self.search.number() >= i128::from(self.search.best.delay) {
             return self.search.close_priced(alloc, net, program, budget);
         }
         self.refinings -= 1;
-        let list = self.lists.keep(alloc, net, self.search.kept.prices())?;
+        let list = self.lists.keep(alloc, net, self.search.kept.prices(), tolls)?;
         let refined = Turn {
             urgency: -self.search.kept.value(),
             list: Some(list),
@@ -170,7 +174,8 @@ impl Running {
             budget,
             &mut self.search,
             &self.lists,
-            turn.list,
+            &mut self.relaxation,
+            &turn,
         )?;
         self.search.close_priced(alloc, net, program, budget)
     }
@@ -245,7 +250,8 @@ fn plan_columns(net: &Net, program: &Program, budget: u32) -> u32
     program.plan_cols()
 }
 
-/// Works on the prices of the leaf at which a search stands, from the seed or a list.
+/// Works on the prices of the leaf at which a search stands, from the seed, a list, or those of tolls that are raised first; and answers
+/// these tolls.
 fn work(
     alloc: Global,
     net: &Net,
@@ -253,8 +259,9 @@ fn work(
     budget: u32,
     search: &mut Search,
     lists: &Lists,
-    list: Option<u32>,
-) -> Result<(), Memory>
+    relaxation: &mut Relaxation,
+    turn: &Turn,
+) -> Result<Tolls, Memory>
     requires task { IsTask net.now program.now budget }
     requires searching { IsSearching net.now budget search.old }
     requires lists { AreLists net.now lists.now }
@@ -263,6 +270,21 @@ fn work(
     ensures at { search.new.at ≡ search.old.at }
     ensures worked { OnOk result (AreWorked net.now (pos search.new.best.delay) (box_of search.new.tree search.new.at) search.new.kept.prices) }
 {
-    let other = lists.list(net, list);
-    search.refine(alloc, net, program, budget, lists.seed.as_slice(), other)
+    let rounds = rounds_of(turn);
+    let from = lists.tolls(turn.list);
+    let tolls = relaxation.raise(alloc, net, program, search.kept.bounds(), from, rounds)?;
+    let seed = lists.seed.as_slice();
+    let further = relaxation.prices(alloc, net, program, search.kept.bounds(), seed, &tolls)?;
+    let other = lists.list(net, turn.list);
+    search.refine(alloc, net, program, budget, seed, other, further.as_slice())?;
+    Ok(tolls)
+}
+
+/// In how many rounds the tolls of a leaf are raised.
+fn rounds_of(turn: &Turn) -> u32 {
+    if turn.depth == 0 {
+        ROUNDS_OF_THE_ROOT
+    } else {
+        ROUNDS_OF_A_LEAF
+    }
 }

@@ -20,6 +20,7 @@ use cert_format::Cert;
 use ct_base::{Memory, Net};
 use lo_program::{compile, row_count};
 use plan_rounding::ReplayedPlan;
+use queue_prices::Relaxation;
 use search_model::laws::plans_that_reach_a_bound_are_best;
 use sparse_program::Program;
 use sparse_program::limits::MAX_ROWS;
@@ -71,7 +72,9 @@ fn search_within(alloc: Global, net: &Net, program: &Program, budget: u32) -> Re
         lists: Lists {
             seed,
             worked: Vec::new(alloc),
+            tolls: Vec::new(alloc),
         },
+        relaxation: Relaxation::new(alloc, net, program)?,
         refinings: budget,
     };
     running.run(alloc, net, program, budget)?;
