@@ -136,7 +136,9 @@ impl Running {
             return self.search.close_priced(alloc, net, program, budget);
         }
         self.refinings -= 1;
-        let list = self.lists.keep(alloc, net, self.search.kept.prices(), tolls)?;
+        let list = self
+            .lists
+            .keep(alloc, net, self.search.kept.prices(), tolls)?;
         let refined = Turn {
             urgency: -self.search.kept.value(),
             list: Some(list),
