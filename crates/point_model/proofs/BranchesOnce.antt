@@ -1,17 +1,16 @@
 -- The floors of a diverge have one quotient and one rest each, where cells hold the same; so its terms come to the same.
-use Rattle.std.proofs.Common.{◌≡◌, inl, inr, ℕ, zero, suc, ◌+◌, ◌-◌, ◌<◌, ◌≤◌, true, List, [], ◌∷◌, ◌++◌, length, get_or, refl, ap, subst, ◌∙◌, sym, arith}
+use Rattle.std.proofs.Common.{◌≡◌, inl, inr, ℕ, zero, suc, ◌+◌, ◌-◌, ◌<◌, true, List, [], ◌∷◌, length, get_or, ap, subst, ◌∙◌, sym, arith}
 use Rattle.std.specs.Prelude.{nat_lt, ℤ, pos, ◌≤ℤ◌}
 use Rattle.std.proofs.lemmas.Bool.{cases_Bool, lt-ltb, ltb-true}
-use Rattle.std.proofs.lemmas.Int.{ints}
 use Rattle.std.proofs.lemmas.List.{get_or_default}
 use Rattle.ct_base.specs.Access.{cell_of}
 use Rattle.ct_base.specs.declared.cell.Out.{Out}
-use Rattle.ct_base.specs.declared.cell.Out.TheVariants.{Exit, To, Turns}
+use Rattle.ct_base.specs.declared.cell.Out.TheVariants.{Turns}
 use Rattle.ct_base.specs.declared.net.Net.{Net}
 use Rattle.program_model.specs.Columns.{BranchRest, BranchRoom, Column}
 use Rattle.program_model.specs.Existence.{HasFloor, IsPlace}
-use Rattle.program_model.specs.FlowRows.{branch_rows, branch_term, branch_terms, branches_rows, room}
-use Rattle.program_model.specs.Rows.{AllMeet, Meets, SumRow, column}
+use Rattle.program_model.specs.FlowRows.{branch_rows, branch_terms, branches_rows, room}
+use Rattle.program_model.specs.Rows.{AllMeet, SumRow}
 use Rattle.program_model.specs.SwitchRows.{Term, floor_row}
 use Rattle.program_model.specs.Values.{branch_of}
 use Rattle.program_model.proofs.ColumnLaws.{Each}

@@ -12,9 +12,8 @@ use Rattle.ct_base.specs.declared.cell.Cell.{Cell}
 use Rattle.ct_base.specs.declared.cell.Out.{Out}
 use Rattle.ct_base.specs.declared.cell.Out.TheVariants.{Exit, To, Turns}
 use Rattle.ct_base.specs.declared.net.Net.{Net}
-use Rattle.ct_base.specs.declared.plan.Letter.{Letter}
 use Rattle.ct_base.specs.declared.signal.Signal.{Signal}
-use Rattle.program_model.specs.Columns.{Bit, Column, Flow, Room, RoomRest, Switch, Units, bits_at, columns, columns_of_branch, columns_of_branches, columns_of_cell, columns_of_cells, columns_of_split, has_room, letters_by, letters_of, plan_columns, term_count}
+use Rattle.program_model.specs.Columns.{Bit, Column, Switch, bits_at, columns, columns_of_branch, columns_of_branches, columns_of_cell, columns_of_cells, columns_of_split, has_room, letters_by, letters_of, plan_columns, term_count}
 use Rattle.program_model.specs.Numbers.{after_room, bits_before, bits_of_step, branches_before, branches_of, cells_before, first_column, letters_before, number_of, place_of_flow, place_of_letter, plan_count}
 use Rattle.program_model.proofs.NumberLaws.{flow_and_switches, length-branch, length-cell, length-plan_columns, length-split, units_and_room}
 

@@ -1,5 +1,5 @@
 -- An integer point is the point of an admissible plan, of which its bits are the letters, and of no other plan.
-use Rattle.std.proofs.Common.{◌≡◌, ◌⊎◌, inl, inr, ℕ, zero, suc, ◌+◌, ◌<◌, ◌≤◌, Bool, true, false, List, [], ◌∷◌, ◌++◌, length, get_or, map, take, refl, ap, subst, ◌∙◌, sym, arith}
+use Rattle.std.proofs.Common.{◌≡◌, ◌⊎◌, inl, inr, ℕ, zero, suc, ◌<◌, ◌≤◌, Bool, true, false, List, [], ◌∷◌, ◌++◌, length, get_or, map, take, refl, ap, subst, ◌∙◌, sym, arith}
 use Rattle.std.specs.Prelude.{ℤ, pos, ◌≤ℤ◌, unsigned_abs}
 use Rattle.std.proofs.lemmas.Bool.{cases_eq}
 use Rattle.std.proofs.lemmas.Int.{ints}
@@ -21,7 +21,7 @@ use Rattle.program_model.specs.Points.{IsIntegerPoint, col, point_of, program_of
 use Rattle.program_model.specs.RuleRows.{rule_rows}
 use Rattle.program_model.specs.Rows.{AllMeet, SumRow}
 use Rattle.program_model.specs.Sparse.{sparse}
-use Rattle.program_model.specs.Values.{least_of, most_of, one_where, value_of}
+use Rattle.program_model.specs.Values.{least_of, most_of, one_where}
 use Rattle.program_model.proofs.ColumnLaws.{Each-at, columns_are}
 use Rattle.program_model.proofs.LetterSums.{is_letter-itself, is_letter-same}
 use Rattle.program_model.proofs.NumberLaws.{bit_stands, length-plan_columns}

@@ -1,10 +1,10 @@
 -- Sums that come to the same under two values of each column, because the columns that they name have the same.
-use Rattle.std.proofs.Common.{◌≡◌, ℕ, List, [], ◌∷◌, ◌++◌, map, refl, ap, ◌∙◌, sym, arith}
-use Rattle.std.specs.Prelude.{ℤ, pos, ◌+ℤ◌, ◌*ℤ◌}
+use Rattle.std.proofs.Common.{◌≡◌, List, [], ◌∷◌, map, refl, ap, ◌∙◌, sym, arith}
+use Rattle.std.specs.Prelude.{ℤ, ◌+ℤ◌, ◌*ℤ◌}
 use Rattle.std.proofs.lemmas.Int.{ints}
-use Rattle.program_model.specs.Rows.{AllMeet, Sum, SumRow, column, minus, plus, sum_at, terms_at, times, total}
+use Rattle.program_model.specs.Rows.{Sum, column, minus, plus, sum_at, terms_at, times, total}
 use Rattle.program_model.proofs.ColumnLaws.{Each}
-use Rattle.program_model.proofs.SumLaws.{AllMeet-parts, sum_at-column, sum_at-minus, sum_at-plus, sum_at-times}
+use Rattle.program_model.proofs.SumLaws.{sum_at-column, sum_at-minus, sum_at-plus, sum_at-times}
 
 -- the sum comes to the same under both
 abbrev pub Same : {C : Type 0} → (C → ℤ) → (C → ℤ) → Sum C → Type 0

@@ -1,9 +1,8 @@
 -- Values of the columns of a network within their bounds that meet the flow rows, the rows of one cell at one step, and two such
 -- values with the same bits.
-use Rattle.std.proofs.Common.{◌≡◌, inl, inr, ℕ, ◌+◌, ◌-◌, ◌<◌, Bool, true, false, List, [], ◌∷◌, ◌++◌, length, refl, arith}
+use Rattle.std.proofs.Common.{◌≡◌, inl, inr, ℕ, ◌<◌, Bool, true, false, List, [], ◌∷◌, ◌++◌, length, refl, arith}
 use Rattle.std.specs.Prelude.{if◌then◌else◌, nat_lt, ℤ, pos, ◌≤ℤ◌}
 use Rattle.std.proofs.lemmas.Bool.{and_parts, cases_Bool, ltb-true}
-use Rattle.std.proofs.lemmas.Int.{ints}
 use Rattle.listed.specs.Below.{join_below}
 use Rattle.ct_base.specs.Access.{cell_of}
 use Rattle.ct_base.specs.Validity.{IsValid}

@@ -1,5 +1,5 @@
 -- From step to step: the bits of all steps decide what cells hold, and so all columns.
-use Rattle.std.proofs.Common.{◌≡◌, inl, inr, ℕ, zero, suc, ◌+◌, ◌-◌, ◌<◌, ◌≤◌, true, List, [], ◌∷◌, length, get_or, filter, map, refl, ap, subst, ◌∙◌, sym, arith}
+use Rattle.std.proofs.Common.{◌≡◌, ℕ, zero, suc, ◌+◌, ◌-◌, ◌<◌, List, [], ◌∷◌, length, get_or, filter, map, refl, subst, sym, arith}
 use Rattle.std.specs.Prelude.{nat_lt, ℤ, pos, ◌+ℤ◌, ◌≤ℤ◌, Option, Some, None, IfSome}
 use Rattle.std.proofs.lemmas.Bool.{lt-ltb}
 use Rattle.std.proofs.lemmas.Int.{ints}
@@ -17,10 +17,9 @@ use Rattle.traffic_model.specs.Flow.{cap_of, is_green_among, share, units_of_flo
 use Rattle.traffic_model.specs.Occupancy.{demand_at}
 use Rattle.program_model.specs.Columns.{Bit, BranchRest, BranchRoom, Column, Flow, Parcels, ParcelsRest, Room, RoomRest, Switch, Units, letters_of, term_count}
 use Rattle.program_model.specs.Existence.{HasFloor, IsColumn, IsDiverge, IsLetterOf, IsPlace}
-use Rattle.program_model.specs.FlowRows.{branches_rows, conservation_row, entering, further_terms, gated_cap, move_terms, split_rows}
-use Rattle.program_model.specs.Numbers.{branches_of}
-use Rattle.program_model.specs.Rows.{AllMeet, Meets, Sum, SumRow, column, minus, plus, sum_at, times, total}
-use Rattle.program_model.specs.SwitchRows.{Term, floor_row}
+use Rattle.program_model.specs.FlowRows.{conservation_row, entering, further_terms, gated_cap, move_terms, split_rows}
+use Rattle.program_model.specs.Rows.{AllMeet, Sum, column, minus, plus, sum_at, times, total}
+use Rattle.program_model.specs.SwitchRows.{Term}
 use Rattle.program_model.proofs.ColumnLaws.{Each, Each-table_of, letters_are}
 use Rattle.program_model.proofs.FlowColumns.{length-further_terms}
 use Rattle.program_model.proofs.PlanMoves.{IsLedInto, to_is_led_into}
@@ -30,7 +29,7 @@ use Rattle.point_model.proofs.BranchesOnce.{branches_are, branches_once, same-br
 use Rattle.point_model.proofs.FloorsOnce.{AreParts, floor_once}
 use Rattle.point_model.proofs.MovesOnce.{AreMoves, move_once}
 use Rattle.point_model.proofs.SameSums.{Same, same-column, same-minus, same-terms, same-times, same-total}
-use Rattle.point_model.proofs.Solutions.{AreSolutions, IsSolution, MeetsAt, SameUnits, meets_at, room_once, row_where, same-room}
+use Rattle.point_model.proofs.Solutions.{AreSolutions, IsSolution, SameUnits, meets_at, room_once, row_where, same-room}
 
 -- ---- the floors of a diverge
 
