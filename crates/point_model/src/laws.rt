@@ -17,7 +17,8 @@ ghost use Rattle.point_model.specs.PlansOfPoints.{IsPlanOf, plan_bits};
 /// there.
 pub fn places_are_the_numbers_of_their_columns()
     ensures is { (net : Net) (j : ℕ) (other : Column) → j < length (columns net) → IsColumn net (slice_index_or (columns net) j other) }
-    ensures number { (net : Net) (j : ℕ) (other : Column) → j < length (columns net) → number_of net (slice_index_or (columns net) j other) ≡ j }
+    ensures number { (net : Net) (j : ℕ) (other : Column) → j < length (columns net) →
+        number_of net (slice_index_or (columns net) j other) ≡ j }
 {}
 
 /// Each integer point is the point of some admissible plan: the program has no point beside those of plans.
@@ -33,14 +34,14 @@ pub fn plans_with_one_point_are_one()
 
 /// The plan columns decide a point: two integer points that begin with the same bits are one point.
 pub fn bits_decide_a_point()
-    ensures { (net : Net) (point other : List ℤ) → IsValid net → IsIntegerPoint (program_of net) point → IsIntegerPoint (program_of net) other →
-        take (plan_count net) point ≡ take (plan_count net) other → point ≡ other }
+    ensures { (net : Net) (point other : List ℤ) → IsValid net → IsIntegerPoint (program_of net) point →
+        IsIntegerPoint (program_of net) other → take (plan_count net) point ≡ take (plan_count net) other → point ≡ other }
 {}
 
 /// The point of a plan begins with the bits of its letters, and an integer point that begins with the bits of an admissible plan is
 /// that plan's. So the plan of a point can be read from its plan columns alone.
 pub fn points_begin_with_the_bits_of_their_plans()
     ensures begins { (net : Net) (words : List (List Letter)) → take (plan_count net) (point_of net words) ≡ plan_bits net words }
-    ensures decide { (net : Net) (point : List ℤ) (plan : Plan) → IsValid net → IsIntegerPoint (program_of net) point → IsAdmissiblePlan net plan →
-        take (plan_count net) point ≡ plan_bits net plan.words → point ≡ point_of net plan.words }
+    ensures decide { (net : Net) (point : List ℤ) (plan : Plan) → IsValid net → IsIntegerPoint (program_of net) point →
+        IsAdmissiblePlan net plan → take (plan_count net) point ≡ plan_bits net plan.words → point ≡ point_of net plan.words }
 {}
