@@ -1,0 +1,1 @@
+//! What keeps a list of values from being an integer point of a program.
