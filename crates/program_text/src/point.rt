@@ -36,6 +36,7 @@ pub fn write_point(alloc: Global, point: &[i64]) -> Result<Vec<u8>, Memory>
 /// The values that a text spells, or the first line that is not of the form.
 pub fn read_point(alloc: Global, bytes: &[u8]) -> Result<Point, PointFault>
     ensures value { OrMemory PointFault.Memory (spelled_point bytes.now) result }
+    ensures text { IfOk result (λ values. bytes.now ≡ point_text values) }
     ensures wholes { IfOk result (All IsWhole) }
 {
     match take_line(bytes) {
