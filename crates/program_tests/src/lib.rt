@@ -2,6 +2,8 @@
 #![tactic(auto)]
 
 #[cfg(test)]
+mod decoded_points;
+#[cfg(test)]
 mod moves_and_floors;
 #[cfg(test)]
 mod networks;

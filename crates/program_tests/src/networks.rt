@@ -97,6 +97,16 @@ pub fn crossing(alloc: Global) -> Result<Net, Memory> {
     })
 }
 
+/// One cell that holds three units over one step, of which two may leave.
+pub fn one_cell(alloc: Global) -> Result<Net, Memory> {
+    let cell = road(alloc, 2, 3, 1, 3, Out::Exit);
+    Ok(Net {
+        steps: 1,
+        cells: Listed::of(vec![in alloc; cell]?),
+        signals: Listed::new(alloc),
+    })
+}
+
 /// A plan for a network without signals.
 pub fn no_plan(alloc: Global) -> Plan {
     Plan {
