@@ -19,7 +19,7 @@ import typing
 
 TOP = pathlib.Path(__file__).resolve().parent.parent
 TIME = '/usr/bin/time'
-CPU_SECONDS = 10  # after so much work a run is ended
+CPU_SECONDS = 100  # after so much work a run is ended
 ADOPT_ORPHANS = 36  # prctl's PR_SET_CHILD_SUBREAPER
 ANNOTATED = re.compile(r' *([\d,]+) +\([ \d.]+%\)  [^:]*:(.+?)(?: \[[^]]*\])?')
 
