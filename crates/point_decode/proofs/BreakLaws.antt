@@ -1,7 +1,6 @@
 -- Nothing breaks a list exactly where it is an integer point.
-use Rattle.std.proofs.Common.{◌≡◌, ℕ, ◌<◌, ◌==◌, Bool, true, false, List, [], ◌∷◌, ◌++◌, length, get_or, refl, subst, arith}
-use Rattle.std.specs.Prelude.{◌↔◌, ℤ, ◌≤ℤ◌, int_le, not, ◌&&◌}
-use Rattle.std.specs.Ordering.{int_eq}
+use Rattle.std.proofs.Common.{◌≡◌, ℕ, ◌<◌, ◌==◌, Bool, true, false, List, [], ◌++◌, length, get_or, refl, subst, arith}
+use Rattle.std.specs.Prelude.{ℤ, ◌≤ℤ◌, int_le, not, ◌&&◌}
 use Rattle.std.proofs.lemmas.Bool.Decides.{Decides-int_eq}
 use Rattle.std.proofs.lemmas.List.{get_or_default}
 use Rattle.listed.proofs.JoinLaws.{append_none}
@@ -13,7 +12,7 @@ use Rattle.sparse_program.specs.declared.column.Col.{Col}
 use Rattle.sparse_program.specs.declared.row.Row.{Row}
 use Rattle.program_model.specs.Points.{IsIntegerPoint, value_at}
 use Rattle.certificate_model.proofs.ReasonLaws.{int_le-true, le-int_le}
-use Rattle.point_decode.specs.Breaks.{column_breaks, is_met, is_within, length_breaks, point_breaks, reaches, row_breaks}
+use Rattle.point_decode.specs.Breaks.{column_breaks, is_within, length_breaks, point_breaks, reaches, row_breaks}
 
 -- ---- the tests
 

@@ -1,5 +1,5 @@
 -- The plan that values show is the one whose bits they have.
-use Rattle.std.proofs.Common.{◌≡◌, inl, inr, ℕ, ◌+◌, ◌<◌, ◌≤◌, Bool, true, false, List, [], ◌∷◌, length, ◌++◌, map, filter, get_or, take, sum_by, refl, sym, ap, subst, ◌∙◌, arith}
+use Rattle.std.proofs.Common.{◌≡◌, inl, inr, ℕ, ◌<◌, ◌≤◌, Bool, true, false, List, [], ◌∷◌, length, ◌++◌, map, filter, get_or, take, sum_by, refl, sym, ap, subst, ◌∙◌, arith}
 use Rattle.std.specs.Prelude.{ℤ, pos}
 use Rattle.std.specs.Ordering.{int_eq}
 use Rattle.std.proofs.lemmas.Bool.{cases_Bool}
@@ -29,7 +29,8 @@ use Rattle.program_model.proofs.PlanFloors.{counted}
 use Rattle.program_model.proofs.PointLaws.{value_at-number}
 use Rattle.program_model.proofs.Segments.{letter_in}
 use Rattle.certificate_model.specs.Leaves.{bits_of}
-use Rattle.point_decode.specs.Decoded.{IsPointOf, letters_shown, plan_shown, word_shown}
+use Rattle.point_model.specs.PlansOfPoints.{IsPlanOf}
+use Rattle.point_decode.specs.Decoded.{letters_shown, plan_shown, word_shown}
 
 -- ---- the letter of a step
 
@@ -113,7 +114,7 @@ bits_are_the_front net plan =
     ∙ take-append_seam (map f (plan_columns net)) (map f rest)
 
 -- and so of the list that is its point
-pub point_begins_with_bits : (net : Net) (point : List ℤ) (plan : Plan) → IsPointOf net point plan → take (plan_count net) point ≡ bits_of net plan.words
+pub point_begins_with_bits : (net : Net) (point : List ℤ) (plan : Plan) → IsPlanOf net point plan → take (plan_count net) point ≡ bits_of net plan.words
 point_begins_with_bits net point plan of = ap (take (plan_count net)) of.is ∙ bits_are_the_front net plan
 
 -- ---- the plan whose bits a point begins with
@@ -123,8 +124,8 @@ pub plan_of_bits_is_shown : (net : Net) (point : List ℤ) (plan : Plan) → IsV
 plan_of_bits_is_shown net point plan valid admissible is = sym (plan_is_shown net point plan valid admissible (front_has_bits net point plan is))
 
 -- and the one whose point it is
-pub plan_of_bits_is_of : (net : Net) (point : List ℤ) (plan other : Plan) → IsValid net → IsAdmissiblePlan net plan → take (plan_count net) point ≡ bits_of net plan.words → IsPointOf net point other → IsPointOf net point plan
+pub plan_of_bits_is_of : (net : Net) (point : List ℤ) (plan other : Plan) → IsValid net → IsAdmissiblePlan net plan → take (plan_count net) point ≡ bits_of net plan.words → IsPlanOf net point other → IsPlanOf net point plan
 plan_of_bits_is_of net point plan other valid admissible is of =
     let same : other ≡ plan =
     plan_of_bits_is_shown net point other valid of.admissible (point_begins_with_bits net point other of) ∙ sym (plan_of_bits_is_shown net point plan valid admissible is) in
-    subst (IsPointOf net point) same of
+    subst (IsPlanOf net point) same of

@@ -1,5 +1,5 @@
 -- Values within the bounds of their columns are small, and so are their products with coefficients.
-use Rattle.std.proofs.Common.{◌≡◌, ℕ, ◌+◌, ◌*◌, ◌<◌, ◌≤◌, ◌^◌, List, [], ◌∷◌, ◌++◌, length, get_or, take, ap, arith}
+use Rattle.std.proofs.Common.{◌≡◌, ℕ, ◌+◌, ◌<◌, ◌≤◌, ◌^◌, List, [], ◌∷◌, ◌++◌, length, get_or, take, ap, arith}
 use Rattle.std.specs.Prelude.{ℤ, ◌+ℤ◌, ◌*ℤ◌, ◌≤ℤ◌, unsigned_abs, FitsSigned}
 use Rattle.std.specs.Int.{w64}
 use Rattle.std.proofs.Math.Nat.{mul-le-mul}
@@ -9,7 +9,6 @@ use mir.Val.{of_z, to_z}
 use Rattle.refusals.specs.Faults.{per_item}
 use Rattle.sparse_program.specs.Program.{IsCol, IsProgram, Parts, col_of, no_col}
 use Rattle.sparse_program.specs.Terms.{IsSmall, terms_sum}
-use Rattle.sparse_program.specs.declared.column.Col.{Col}
 use Rattle.sparse_program.proofs.TermLaws.{terms_sum-append}
 use Rattle.program_model.specs.Points.{value_at}
 use Rattle.point_decode.specs.Breaks.{column_breaks}

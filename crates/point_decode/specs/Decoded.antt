@@ -1,5 +1,5 @@
 -- The plan that a list of values shows, and what a list is decoded to (docs/program.md, "From a point to its plan").
-use Rattle.std.specs.Prelude.{◌≡◌, ℕ, ℤ, pos, List, filter, length, Result, slice_index_or}
+use Rattle.std.specs.Prelude.{ℕ, ℤ, pos, List, filter, length, Result, slice_index_or}
 use Rattle.std.specs.Ordering.{int_eq}
 use Rattle.listed.specs.Below.{table_of}
 use Rattle.refusals.specs.Faults.{unless}
@@ -9,18 +9,12 @@ use Rattle.ct_base.specs.declared.plan.Letter.{Letter}
 use Rattle.ct_base.specs.declared.plan.Letter.TheVariants.{Clear}
 use Rattle.ct_base.specs.declared.plan.Plan.{Plan}
 use Rattle.traffic_model.specs.Delay.{delay_of, letters_at}
-use Rattle.traffic_model.specs.Runs.{IsAdmissiblePlan}
 use Rattle.program_model.specs.Columns.{Bit, letters_of}
 use Rattle.program_model.specs.Numbers.{number_of}
-use Rattle.program_model.specs.Points.{point_of, program_of, value_at}
+use Rattle.program_model.specs.Points.{program_of, value_at}
 use Rattle.point_decode.specs.Breaks.{point_breaks}
 use Rattle.point_decode.specs.declared.broken.Broken.{Broken}
 use Rattle.point_decode.specs.declared.decoding.Decoded.{Decoded}
-
--- the list is the point of an admissible plan
-pub record IsPointOf (net : Net) (point : List ℤ) (plan : Plan) : Type 0 where
-  pub admissible : IsAdmissiblePlan net plan
-  pub is : point ≡ point_of net plan.words
 
 -- the letters of signal s whose bits are 1 at step t
 abbrev pub letters_shown : Net → List ℤ → ℕ → ℕ → List Letter

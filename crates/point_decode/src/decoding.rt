@@ -6,16 +6,18 @@ ghost use Rattle.refusals.specs.Memory.{OrMemory};
 ghost use Rattle.ct_base.specs.Validity.{IsValid};
 ghost use Rattle.traffic_model.specs.Runs.{IsAdmissiblePlan};
 ghost use Rattle.program_model.specs.Points.{IsIntegerPoint, point_of, program_of};
+ghost use Rattle.point_model.specs.PlansOfPoints.{IsPlanOf};
 ghost use Rattle.point_decode.specs.Breaks.{point_breaks};
-ghost use Rattle.point_decode.specs.Decoded.{IsPointOf, decoded, plan_shown};
+ghost use Rattle.point_decode.specs.Decoded.{decoded, plan_shown};
 ghost use Rattle.point_decode.specs.declared.broken.Broken.TheVariants.{Memory as WantOfMemory};
 
 use crate::broken::Broken;
 use crate::judge::is_integer_point;
-use crate::laws::{points_are_points_of_plans, unbroken_lists_are_integer_points};
+use crate::laws::unbroken_lists_are_integer_points;
 use cell_replay::delay;
 use ct_base::{Memory, Net, Plan};
 use plan_bits::plan_of_bits;
+use point_model::laws::points_are_points_of_plans;
 use sparse_program::Program;
 use std::alloc::Global;
 
@@ -51,7 +53,7 @@ fn plan_of_point(alloc: Global, net: &Net, program: &Program, point: &[i64]) -> 
     requires program { program.now ≡ program_of net.now }
     requires integer { IsIntegerPoint (program_of net.now) point.now }
     ensures shown { IfOk result (λ plan. plan ≡ plan_shown net.now point.now) }
-    ensures of { IfOk result (IsPointOf net.now point.now) }
+    ensures of { IfOk result (IsPlanOf net.now point.now) }
 {
     points_are_points_of_plans();
     let bits = &point[..program.plan_cols() as usize];

@@ -7,15 +7,9 @@ ghost use Rattle.ct_base.specs.declared.plan.Plan.{Plan};
 ghost use Rattle.sparse_program.specs.Program.{Parts};
 ghost use Rattle.traffic_model.specs.Delay.{delay_of, letters_at};
 ghost use Rattle.traffic_model.specs.Runs.{IsAdmissiblePlan};
-ghost use Rattle.program_model.specs.Points.{IsIntegerPoint, point_of, program_of};
+ghost use Rattle.program_model.specs.Points.{IsIntegerPoint, point_of};
 ghost use Rattle.point_decode.specs.Breaks.{point_breaks};
-ghost use Rattle.point_decode.specs.Decoded.{IsPointOf, decoded, plan_shown};
-
-/// Each integer point of a network's program is the point of an admissible plan.
-pub fn points_are_points_of_plans()
-    ensures { (net : Net) (point : List ℤ) → IsValid net → IsIntegerPoint (program_of net) point →
-        (plan : Plan) × IsPointOf net point plan }
-{}
+ghost use Rattle.point_decode.specs.Decoded.{decoded, plan_shown};
 
 /// Nothing breaks a list exactly where it is an integer point.
 pub fn unbroken_lists_are_integer_points()

@@ -8,7 +8,7 @@ use Rattle.traffic_model.specs.Runs.{IsAdmissiblePlan}
 use Rattle.program_model.specs.Numbers.{plan_count}
 use Rattle.program_model.specs.Points.{program_of}
 use Rattle.certificate_model.specs.Leaves.{bits_of}
-use Rattle.point_decode.specs.Decoded.{IsPointOf}
+use Rattle.point_model.specs.PlansOfPoints.{IsPlanOf}
 use Rattle.point_decode.proofs.ShownLaws.{plan_of_bits_is_of, plan_of_bits_is_shown, point_begins_with_bits}
 use Rattle.point_decode.proofs.decoding.plan_of_point.Goals as goal
 
@@ -31,7 +31,7 @@ pub unreachable-requires : goal.unreachable-requires
 unreachable-requires c =
     let net = c.args.net.now in
     let point = c.args.point.now in
-    let found : (plan : Plan) × IsPointOf net point plan = c.points_are_points_of_plans.ensures net point c.requires.valid c.requires.integer in
+    let found : (plan : Plan) × IsPlanOf net point plan = c.points_are_points_of_plans.ensures net point c.requires.valid c.requires.integer in
     c.plan_of_bits.ensures.none (c.in_ok-plan.was ∙ ap Ok c.in-None.is) found.0 found.1.admissible
     (sym (front_is net c.args.program.now c.plan_cols.result point c.plan_cols.ensures.value c.requires.program) ∙ point_begins_with_bits net point found.0 found.1)
 
@@ -48,7 +48,7 @@ pub returns-clause-of : goal.returns-clause-of
 returns-clause-of c =
     let net = c.args.net.now in
     let point = c.args.point.now in
-    let found : (plan : Plan) × IsPointOf net point plan = c.points_are_points_of_plans.ensures net point c.requires.valid c.requires.integer in
+    let found : (plan : Plan) × IsPlanOf net point plan = c.points_are_points_of_plans.ensures net point c.requires.valid c.requires.integer in
     plan_of_bits_is_of net point c.in-Some.plan found.0 c.requires.valid
     (subst (λ found. IfSome found (IsAdmissiblePlan net)) c.in-Some.is c.in_ok-plan.ensures.admissible)
     (front_is net c.args.program.now c.plan_cols.result point c.plan_cols.ensures.value c.requires.program
