@@ -14,6 +14,7 @@ byte order marks and nests deeper than 80 are outside of what this judge can say
 import re
 import sys
 import tomllib
+import typing
 
 LONGEST = 1_048_576
 NAME = re.compile(r'[a-z][a-z0-9_]{0,23}')
@@ -28,48 +29,45 @@ class Refused(Exception):
         self.status = 3 if line.startswith('network') else 4
 
 
+class Asked(typing.NamedTuple):
+    """A type or a range that values are asked to have: the test, and its words."""
+    test: typing.Callable
+    words: str
+
+    def __call__(self, value):
+        return self.test(value)
+
+
 # The types that a value may be asked to have. In Python a bool is an int, so types are compared and not tested by isinstance.
 
-def is_whole(value):
-    return type(value) is int
-
-
-def is_text(value):
-    return type(value) is str
-
-
-def is_table(value):
-    return type(value) is dict
+is_whole = Asked(lambda value: type(value) is int, 'a whole number')
+is_text = Asked(lambda value: type(value) is str, 'a text')
+is_table = Asked(lambda value: type(value) is dict, 'a table')
 
 
 def array_of(kind):
-    return lambda value: type(value) is list and all(kind(item) for item in value)
+    return Asked(lambda value: type(value) is list and all(kind(item) for item in value), 'an array of %ss' % kind.words.split(' ', 1)[1])
 
 
 # The ranges of values that have their type.
 
 def between(low, high):
-    return lambda number: low <= number <= high
+    return Asked(lambda number: low <= number <= high, 'from %d to %d' % (low, high))
 
 
 def length(low, high):
-    return lambda items: low <= len(items) <= high
+    return Asked(lambda items: low <= len(items) <= high, 'with %d to %d items' % (low, high))
 
 
 def numbers(most, high):
-    return lambda items: len(items) <= most and all(0 <= item <= high for item in items)
+    return Asked(lambda items: len(items) <= most and all(0 <= item <= high for item in items),
+                 'with at most %d numbers from 0 to %d' % (most, high))
 
 
-def is_wave(items):
-    return len(items) == 2 and 1 <= items[0] <= items[1] <= 100
-
-
-def is_name(text):
-    return NAME.fullmatch(text) is not None
-
-
-def anything(_):
-    return True
+is_wave = Asked(lambda items: len(items) == 2 and 1 <= items[0] <= items[1] <= 100, 'of two numbers p and q, 1 <= p <= q <= 100')
+is_name = Asked(lambda text: NAME.fullmatch(text) is not None,
+                'that is a name: a letter from a to z, and at most 23 such letters, digits and underscores behind it')
+anything = Asked(lambda _: True, 'of any value')
 
 
 # A key: its name, where it has to stand (always, never, or beside another key), its type, its range. Its number is its
