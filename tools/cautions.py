@@ -50,8 +50,8 @@ def wave_remark(network, place):
     room = carried.room_at_capacity(link)
     if room < link['cap']:
         key = 'wave' if 'wave' in link else 'store'
-        yield Remark(network.line('link', place, key), 'a cell of %s that holds its `cap` of %d takes %d in a step, so the link never carries '
-                     'its capacity' % (network.name('link', place), link['cap'], max(0, room)))
+        yield Remark(network.line('link', place, key), 'a cell of %s that holds its `cap` of %d takes %d in a step, so the link never '
+                     'carries its capacity' % (network.name('link', place), link['cap'], max(0, room)))
 
 
 def begins_of(network, signal):

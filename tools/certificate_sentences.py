@@ -35,8 +35,8 @@ def remark_of(printed, name):
     if why == 'weak':
         return Remark(number, 'the leaf gives %s, which is below the bound that line 2 names' % value)
     if why == 'notempty':
-        return Remark(number, 'the leaf is called empty, and its rows come to %s in its box, in 1024ths, where they have to come to 1 at least'
-                      % value)
+        return Remark(number, 'the leaf is called empty, and its rows come to %s in its box, in 1024ths, where they have to come to 1 at '
+                      'least' % value)
     return Remark(number, '%s: %s' % (spelled(line), WHY[why]))
 
 

@@ -67,7 +67,9 @@ def remark_of_format(network):
     if inner:
         return Remark(network.line(*inner[0]), '`format` stands behind a header, and so in %s; it has to stand above all headers'
                       % network.title(*inner[0][:-1]))
-    return Remark(None, 'the line `format = 1` is missing at the top' if network.net else 'the file is empty: it has to begin with `format = 1`')
+    if not network.net:
+        return Remark(None, 'the file is empty: it has to begin with `format = 1`')
+    return Remark(None, 'the line `format = 1` is missing at the top')
 
 
 def path_of(kind, place=None, inner=None):
@@ -272,8 +274,9 @@ def remark_of_phase(network, signal, place):
     path = ('signal', signal, 'phase', place)
     phase, title = network.value(*path), network.title(*path)
     if phase['min'] > phase['max']:
-        return Remark(network.line(*path, 'min'), '%s has a `min` of %d, which is above its `max` of %d' % (title, phase['min'], phase['max']))
-    why = 'may be followed by no phase: `next` is empty' if not phase['next'] else 'may be followed by itself; a green that goes on is one run'
+        return Remark(network.line(*path, 'min'), '%s has a `min` of %d, which is above its `max` of %d' % (
+            title, phase['min'], phase['max']))
+    why = 'may be followed by itself; a green that goes on is one run' if phase['next'] else 'may be followed by no phase: `next` is empty'
     return Remark(network.line(*path, 'next'), '%s %s' % (title, why))
 
 
