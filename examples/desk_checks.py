@@ -137,6 +137,7 @@ def refusal_faults(words, said):
 
 
 USED = [
+    (['uniform-delay'], ['^30 s +900 +1.00 +15.0 s +15.0 s']),
     (['describe', 'arterial.toml', 'arterial-progression.plan'],
      ['^180 steps of 2 seconds, 7 links, 29 cells of which 3 are queues, 2 signals; a vehicle is 10 units$',
       '^ *0 +main +6 +5 +20 +80 +1/3 +20.0 +first_block +upper: main +60 %$', '^ +0 +upper +1 +side +70 +4 +20 +2 +main +mill_street$']),
@@ -168,13 +169,30 @@ REFUSED = [
     (['network-from-streets'], 'usage: tools/network-from-streets STREETS.toml'),
     (['network-from-streets', 'missing'], 'network-from-streets: missing: no such file or directory'),
     (['network-from-streets', 'arterial-together.plan'], 'arterial-together.plan:1: this is a plan'),
+    (['network-from-streets', 'refused.streets.toml'],
+     'refused.streets.toml:9: `a` and `b` lead into `c`, and `a` and `b` have no signal'),
+    (['uniform-delay', 'arterial.toml'], 'usage: tools/uniform-delay'),
     (['network-from-streets', 'arterial.toml'], 'arterial.toml:4: the top of the file has no key `format`'),
 ]
 
 
+# Streets of which the network is refused: two of them lead into a third without a signal.
+
+MERGING = b"""step = 2
+horizon = 60
+speed = 50
+saturation = 1800
+jam = 150
+wave = 18
+street.a = { length = 60, to = "c" }
+street.b = { length = 60, to = "c" }
+street.c = { length = 60 }
+"""
+
+
 def tool_checks():
     words = {word for call, _ in USED + REFUSED for word in call}
-    with folder_with({'refused.toml': b'format = 1\n'}, words):
+    with folder_with({'refused.toml': b'format = 1\n', 'refused.streets.toml': MERGING}, words):
         table = run(TOOLS / 'replay.py', ['arterial.toml', 'arterial-progression.plan', '--trace'])
         pathlib.Path('trace.csv').write_bytes(table.stdout)
         for call, wanted in USED:
@@ -183,7 +201,15 @@ def tool_checks():
             yield 'tools/%s, refused' % ' '.join(call), refusal_faults(call, said)
 
 
+def page_table_faults():
+    """Whether docs/traffic.md has the table that tools/uniform-delay makes."""
+    made = run(TOOLS / 'uniform-delay', ['--page'])
+    is_there = made.stdout.decode() in (TOP / 'docs/traffic.md').read_text()
+    return [] if made.returncode == 0 and is_there else ['docs/traffic.md has another table than tools/uniform-delay makes']
+
+
 def checked(program):
+    yield 'table of uniform delays', page_table_faults()
     for checks in [page_checks, other_checks, planner_checks]:
         yield from checks(program)
     yield from tool_checks()
