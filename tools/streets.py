@@ -79,7 +79,7 @@ def judge_keys(kind, path, values):
 def judge_names(path, tables):
     for name, values in tables.items():
         if not judge.is_name(name):
-            raise Refused(path + (name,), '`%s` is no name; wanted is %s' % (name, judge.is_name.words))
+            raise Refused(path + (name,), '`%s` is no name; wanted is a text %s' % (name, judge.is_name.words))
         if type(values) is not dict:
             raise Refused(path + (name,), '%s is %s; wanted is a table' % (title(path + (name,)), shown(values)))
 
