@@ -3,7 +3,7 @@
 
 usage: bench/bounds.py [PROGRAM]
 
-The networks are the crossing of bench/program.py over 60 steps, generated ones (tools/generate.py), and the examples with signals. Each
+The networks are the crossing of bench/program.py over 60 steps, generated ones (tools/generate.py), and four examples with signals. Each
 is searched with several budgets, as far as its rows allow them; each certificate is judged by `check` and by
 tools/check_certificate.py, which was written apart. Where CBC is installed the least value of the linear program without whole numbers
 stands beside the network's name. Seconds tell their order alone. The program is the built one (run ./planner first) or the one

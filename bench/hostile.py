@@ -9,7 +9,7 @@ printed lines, the instructions in millions and the peak memory of the process. 
 MILLIONS and KILOBYTES (WIDE_KILOBYTES for those in WIDE) with a status from 0 to 8 and a line of the formats, and where the
 table names the answer, with this one. The last line counts.
 
-The memory is that of a plain run, which is ended after ten seconds of work and then not counted. The instructions are those of
+The memory is that of a plain run, which is ended after a hundred seconds of work and then not counted. The instructions are those of
 a second run, under `valgrind --tool=callgrind`: the program's own, and not what the system does for it. So what else the
 machine does decides nothing. All of it takes about two minutes. The program is the built one (run ./planner first) or
 the one that is named.
