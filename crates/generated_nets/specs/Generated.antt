@@ -30,22 +30,25 @@ street_rate number = 5 + number % 4
 abbrev pub side_rate : (number j : ℕ) → ℕ
 side_rate number j = 2 + (number + 2 * j) % 4
 
--- a link: its name, its road cells, what all links have, and the keys that it has beside these
+-- what all links have: a name, road cells, a capacity, a storage, and a wave speed of a third of the free-flow speed
+abbrev pub link_lines : (name : List ℕ) (cells : ℕ) → List (List ℕ)
+link_lines name cells = codes "[[link]]" ∷ text_line (codes "name") name ∷ number_line (codes "cells") cells ∷ codes "cap = 10" ∷ codes "store = 40" ∷ codes "wave = [1, 3]" ∷ []
+
+-- a link: what all links have, and the keys that it has beside these
 abbrev pub link_text : (name : List ℕ) (cells : ℕ) (further : List (List ℕ)) → List ℕ
-link_text name cells further =
-    text_of_lines (codes "[[link]]" ∷ text_line (codes "name") name ∷ number_line (codes "cells") cells ∷ codes "cap = 10" ∷ codes "store = 40" ∷ codes "wave = [1, 3]" ∷ further)
+link_text name cells further = text_of_lines (link_lines name cells ++ further)
 
 -- a branch, with its units of each parcel
-abbrev pub branch : (name : List ℕ) (parcel : ℕ) → List ℕ
-branch name parcel = codes "{ link = " ++ quoted name ++ codes ", parcel = " ++ decimal parcel ++ codes " }"
+abbrev pub branch : (name parcel : List ℕ) → List ℕ
+branch name parcel = codes "{ link = " ++ quoted name ++ codes ", parcel = " ++ parcel ++ codes " }"
 
 -- at junction j most go on along the street, and one unit of each parcel takes the way off
 abbrev pub turns_line : (number j : ℕ) → List ℕ
-turns_line number j = key_line (codes "turns") (codes "[" ++ branch (named (codes "m") (j + 1)) (ahead_of number j) ++ codes ", " ++ branch (named (codes "o") j) 1 ++ codes "]")
+turns_line number j = key_line (codes "turns") (codes "[" ++ branch (named (codes "m") (j + 1)) (decimal (ahead_of number j)) ++ codes ", " ++ branch (named (codes "o") j) (codes "1") ++ codes "]")
 
--- the signal of junction j
-abbrev pub signal_line : ℕ → List ℕ
-signal_line j = text_line (codes "signal") (named (codes "k") j)
+-- the signal of junction j gates a link, and opens it in the green of a phase
+abbrev pub gate_lines : (j : ℕ) (phase : List ℕ) → List (List ℕ)
+gate_lines j phase = text_line (codes "signal") (named (codes "k") j) ∷ only_line (codes "greens") phase ∷ []
 
 -- one piece of demand, until ten steps before the last
 abbrev pub demand_line : (number rate : ℕ) → List ℕ
@@ -58,13 +61,13 @@ head_lines number j = if nat_eq j 0 then demand_line number (street_rate number)
 -- the stretch of the street before junction j, or the one behind the last junction, which leads out of the network
 unfoldable pub street_text : (number j : ℕ) → List ℕ
 street_text number j =
-    if nat_lt j (junctions_of number) then link_text (named (codes "m") j) 3 (turns_line number j ∷ signal_line j ∷ only_line (codes "greens") (codes "main") ∷ head_lines number j) else link_text (named (codes "m") j) 2 []
+    if nat_lt j (junctions_of number) then link_text (named (codes "m") j) 3 (turns_line number j ∷ (gate_lines j (codes "main") ++ head_lines number j))
+    else link_text (named (codes "m") j) 2 []
 
 -- the side street of junction j, which leads into the street behind it
 unfoldable pub side_text : (number j : ℕ) → List ℕ
 side_text number j =
-    link_text (named (codes "s") j) 2
-    (text_line (codes "to") (named (codes "m") (j + 1)) ∷ signal_line j ∷ only_line (codes "greens") (codes "side") ∷ demand_line number (side_rate number j) ∷ [])
+    link_text (named (codes "s") j) 2 (text_line (codes "to") (named (codes "m") (j + 1)) ∷ (gate_lines j (codes "side") ++ demand_line number (side_rate number j) ∷ []))
 
 -- the way off at junction j, which leads out of the network
 unfoldable pub way_off_text : ℕ → List ℕ
@@ -73,7 +76,7 @@ way_off_text j = link_text (named (codes "o") j) 1 []
 -- a phase: its name, the least and the greatest green, two steps of clearance, and the phase that follows
 abbrev pub phase_lines : (name : List ℕ) (least greatest : ℕ) (following : List ℕ) → List (List ℕ)
 phase_lines name least greatest following =
-    codes "[[signal.phase]]" ∷ text_line (codes "name") name ∷ number_line (codes "min") least ∷ number_line (codes "max") greatest ∷ number_line (codes "clear") 2 ∷ only_line (codes "next") following ∷ []
+    codes "[[signal.phase]]" ∷ text_line (codes "name") name ∷ number_line (codes "min") least ∷ number_line (codes "max") greatest ∷ codes "clear = 2" ∷ only_line (codes "next") following ∷ []
 
 -- the signal of junction j: the street and the side street in turn
 unfoldable pub signal_text : ℕ → List ℕ

@@ -1,7 +1,6 @@
 -- How the tables of a generated network are spelled: a key with its value on a line (docs/network-file.md, "Generated networks").
-use Rattle.std.specs.Prelude.{ℕ, List, [], ◌∷◌, ◌++◌, codes}
+use Rattle.std.specs.Prelude.{ℕ, List, ◌++◌, codes}
 use Rattle.std.specs.Fmt.{decimal}
-use Rattle.texts.specs.Lines.{text_of_lines}
 
 -- a text as a value
 abbrev pub quoted : List ℕ → List ℕ

@@ -1,7 +1,8 @@
 //! The links of a generated network: the stretches of the street, the side streets and the ways off.
 
-ghost use Rattle.std.specs.Prelude.{◌≡◌, ◌+◌, ◌<◌, ◌≤◌, ◌++◌, [], OnOk, string_bytes};
-ghost use Rattle.generated_nets.specs.Generated.{side_text, street_text, way_off_text};
+ghost use Rattle.std.specs.Prelude.{◌≡◌, ◌<◌, ◌≤◌, ◌∷◌, ◌++◌, [], OnOk, string_bytes};
+ghost use Rattle.texts.specs.Lines.{text_of_lines};
+ghost use Rattle.generated_nets.specs.Generated.{demand_line, gate_lines, link_lines, named, side_text, street_text, turns_line, way_off_text};
 
 use crate::network::{junctions, steps};
 use listed::Memory;
@@ -34,7 +35,8 @@ pub(crate) fn push_side(text: &mut String, number: u16, junction: u16) -> Result
     let next = junction + 1;
     write!(text, "to = \"m{next}\"\n")?;
     push_gate(text, junction, "side")?;
-    push_demand(text, number, 2 + (number + 2 * junction) % 4)
+    push_demand(text, number, 2 + (number + 2 * junction) % 4)?;
+    Ok(())
 }
 
 /// Adds the way off at a junction.
@@ -45,7 +47,9 @@ pub(crate) fn push_way_off(text: &mut String, junction: u16) -> Result<(), Memor
 }
 
 /// Adds the keys that each link has. Its name is a letter and the number of its junction.
-fn push_link(text: &mut String, letter: &str, junction: u16, cells: u16) -> Result<(), Memory> {
+fn push_link(text: &mut String, letter: &str, junction: u16, cells: u16) -> Result<(), Memory>
+    ensures { OnOk result (string_bytes text.new ≡ string_bytes text.old ++ text_of_lines (link_lines (named letter.now junction) cells)) }
+{
     write!(text, "[[link]]\nname = \"{letter}{junction}\"\n")?;
     write!(
         text,
@@ -58,6 +62,7 @@ fn push_link(text: &mut String, letter: &str, junction: u16, cells: u16) -> Resu
 fn push_turns(text: &mut String, number: u16, junction: u16) -> Result<(), Memory>
     requires number { number ≤ 9999 }
     requires junction { junction < 4 }
+    ensures { OnOk result (string_bytes text.new ≡ string_bytes text.old ++ text_of_lines (turns_line number junction ∷ [])) }
 {
     let next = junction + 1;
     let parcel = 2 + (number + junction) % 3;
@@ -70,13 +75,17 @@ fn push_turns(text: &mut String, number: u16, junction: u16) -> Result<(), Memor
 }
 
 /// Adds the signal of a junction and the phase that opens a link there.
-fn push_gate(text: &mut String, junction: u16, phase: &str) -> Result<(), Memory> {
+fn push_gate(text: &mut String, junction: u16, phase: &str) -> Result<(), Memory>
+    ensures { OnOk result (string_bytes text.new ≡ string_bytes text.old ++ text_of_lines (gate_lines junction phase.now)) }
+{
     write!(text, "signal = \"k{junction}\"\ngreens = [\"{phase}\"]\n")?;
     Ok(())
 }
 
 /// Adds one piece of demand, which ends ten steps before the last.
-fn push_demand(text: &mut String, number: u16, rate: u16) -> Result<(), Memory> {
+fn push_demand(text: &mut String, number: u16, rate: u16) -> Result<(), Memory>
+    ensures { OnOk result (string_bytes text.new ≡ string_bytes text.old ++ text_of_lines (demand_line number rate ∷ [])) }
+{
     let until = steps(number) - 10;
     write!(
         text,

@@ -9,8 +9,8 @@ use crate::signals::push_signal;
 use listed::Memory;
 use std::alloc::Global;
 
-/// The bytes that no text of a generated network has more of.
-const MOST_BYTES: usize = 4096;
+/// The bytes of the longest text, for which room is taken at once.
+const MOST_BYTES: usize = 2341;
 
 /// The text of the network of a number: 2 to 4 signals along a street, over 30 to 40 steps (`docs/network-file.md`, "Generated
 /// networks").

@@ -1,7 +1,8 @@
 //! The signals of a generated network.
 
 ghost use Rattle.std.specs.Prelude.{◌≡◌, ◌++◌, OnOk, string_bytes};
-ghost use Rattle.generated_nets.specs.Generated.{signal_text};
+ghost use Rattle.texts.specs.Lines.{text_of_lines};
+ghost use Rattle.generated_nets.specs.Generated.{phase_lines, signal_text};
 
 use listed::Memory;
 
@@ -11,7 +12,8 @@ pub(crate) fn push_signal(text: &mut String, junction: u16) -> Result<(), Memory
 {
     write!(text, "[[signal]]\nname = \"k{junction}\"\n")?;
     push_phase(text, "main", 4, 12, "side")?;
-    push_phase(text, "side", 3, 8, "main")
+    push_phase(text, "side", 3, 8, "main")?;
+    Ok(())
 }
 
 /// Adds a phase: its name, its least and its greatest green, and the phase that follows.
@@ -21,7 +23,9 @@ fn push_phase(
     least: u16,
     greatest: u16,
     following: &str,
-) -> Result<(), Memory> {
+) -> Result<(), Memory>
+    ensures { OnOk result (string_bytes text.new ≡ string_bytes text.old ++ text_of_lines (phase_lines name.now least greatest following.now)) }
+{
     write!(text, "[[signal.phase]]\nname = \"{name}\"\nmin = {least}\n")?;
     write!(
         text,
