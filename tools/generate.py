@@ -1,10 +1,13 @@
 #!/usr/bin/env python3
-"""Prints the text of the generated network of a number, made by its table alone (docs/network-file.md, "Generated networks").
+"""Prints the text of the generated network of a number, by the tables of docs/network-file.md ("Generated networks") alone.
 
-usage: tools/generate.py NUMBER          prints the text of the number
-       tools/generate.py --all PROGRAM   compares the texts that `PROGRAM NUMBER` prints for all numbers with those made here
+usage: tools/generate.py NUMBER     the text of the network of a number from 0 to 9999
+       tools/generate.py --digest   the SHA-256 of the texts of all numbers, one behind another
+
+The crate generated_nets makes the same texts by code of its own; a test compares them with the digest
+(crates/file_tests/src/generated_networks.rt).
 """
-import subprocess
+import hashlib
 import sys
 
 MOST_NUMBER = 9999
@@ -59,23 +62,19 @@ def generated(number):
     return "".join(line + "\n" for line in lines)
 
 
-def compare_all(program):
-    """How many numbers have another text by the program than here."""
-    differ = 0
+def digest():
+    """The SHA-256 of the texts of all numbers, one behind another."""
+    texts = hashlib.sha256()
     for number in range(MOST_NUMBER + 1):
-        printed = subprocess.run([program, str(number)], capture_output=True, check=False)
-        if printed.returncode != 0 or printed.stdout != generated(number).encode():
-            differ += 1
-            print(f"{number}: status {printed.returncode}, another text")
-    return differ
+        texts.update(generated(number).encode())
+    return texts.hexdigest()
 
 
 def main(words):
-    if len(words) == 2 and words[0] == "--all":
-        differ = compare_all(words[1])
-        print(f"{MOST_NUMBER + 1 - differ} equal, {differ} other")
-        return 1 if differ else 0
-    if len(words) != 1 or not words[0].isdigit() or int(words[0]) > MOST_NUMBER:
+    if words == ["--digest"]:
+        print(digest())
+        return 0
+    if len(words) != 1 or not words[0].isdecimal() or int(words[0]) > MOST_NUMBER:
         print(__doc__, file=sys.stderr)
         return 2
     sys.stdout.write(generated(int(words[0])))

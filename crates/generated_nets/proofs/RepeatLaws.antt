@@ -1,8 +1,7 @@
 -- Why no more than 132 texts differ: a text is made of remainders of its number by 3, 4 and 11.
 use Rattle.std.proofs.Common.{◌≡◌, ℕ, ◌+◌, ◌*◌, ◌%◌, refl, arith}
-use Rattle.listed.specs.Below.{join_below}
 use Rattle.listed.proofs.JoinLaws.{join_below-same}
-use Rattle.generated_nets.specs.Generated.{generated_text, junction_text, junctions_of, side_text, signal_text, street_text, top_text}
+use Rattle.generated_nets.specs.Generated.{generated_text, junction_text, junctions_of, side_text, street_text, top_text}
 
 -- two numbers have the same remainders
 record AreAlike (m n : ℕ) : Type 0 where

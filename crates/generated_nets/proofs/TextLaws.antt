@@ -1,16 +1,15 @@
 -- Texts of lines that are written piece by piece.
-use Rattle.std.proofs.Common.{◌≡◌, ℕ, ◌+◌, ◌<◌, ◌≤◌, Bool, true, false, List, [], ◌∷◌, ◌++◌, refl, sym, ap, ◌∙◌}
-use Rattle.std.specs.Prelude.{codes, if◌then◌else◌, nat_lt, nat_eq}
+use Rattle.std.proofs.Common.{◌≡◌, ℕ, ◌+◌, ◌-◌, ◌%◌, ◌<◌, ◌≤◌, eq-eqb, List, [], ◌∷◌, ◌++◌, refl, sym, ap, ◌∙◌}
+use Rattle.std.specs.Prelude.{codes}
 use Rattle.std.specs.Fmt.{decimal}
 use Rattle.std.proofs.lemmas.Bool.{lt-ltb, le-ltb, ne_eqb}
-use Rattle.std.proofs.Common.{eq-eqb, ◌*◌, ◌-◌, ◌%◌}
 use Rattle.std.proofs.lemmas.List.{append-nil, append_assoc}
 use Rattle.std.proofs.lemmas.List.Concat.{flat_map-append}
 use Rattle.texts.specs.Lines.{text_of_lines}
 use Rattle.listed.specs.Below.{join_below}
 use Rattle.listed.proofs.JoinLaws.{join_below-suc, join_below-zero}
-use Rattle.generated_nets.specs.Spelling.{text_line, number_line}
-use Rattle.generated_nets.specs.Generated.{demand_line, gate_lines, generated_text, junction_text, junctions_of, link_lines, link_text, named, phase_lines, side_rate, side_text, signal_text, steps_of, street_rate, street_text, top_text, turns_line, way_off_text}
+use Rattle.generated_nets.specs.Spelling.{text_line}
+use Rattle.generated_nets.specs.Generated.{demand_line, gate_lines, generated_text, junction_text, junctions_of, link_lines, named, phase_lines, side_rate, side_text, signal_text, steps_of, street_rate, street_text, top_text, turns_line, way_off_text}
 
 -- lines before others
 text_of_both : (lines more : List (List ℕ)) → text_of_lines (lines ++ more) ≡ text_of_lines lines ++ text_of_lines more

@@ -1,5 +1,5 @@
 -- Until ten steps before the last.
-use Rattle.std.proofs.Common.{append_assoc, ◌∙◌, ap, ◌-◌, ◌++◌}
+use Rattle.std.proofs.Common.{append_assoc}
 use Rattle.std.specs.Prelude.{string_bytes}
 use Rattle.generated_nets.proofs.TextLaws.{demand_is_added}
 use Rattle.generated_nets.proofs.links.push_demand.Goals as goal

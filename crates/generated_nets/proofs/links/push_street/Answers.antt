@@ -1,5 +1,5 @@
 -- The stretch behind the last junction, one with demand, and one without.
-use Rattle.std.proofs.Common.{◌≡◌, ◌<◌, ◌≤◌, arith}
+use Rattle.std.proofs.Common.{◌<◌, ◌≤◌, arith}
 use Rattle.std.specs.Prelude.{string_bytes}
 use Rattle.generated_nets.specs.Generated.{junctions_of}
 use Rattle.generated_nets.proofs.TextLaws.{head_is_added, street_behind, street_is_added}

@@ -1,5 +1,5 @@
 -- The top, the links and the signals.
-use Rattle.std.proofs.Common.{◌≡◌, ◌∙◌, ◌++◌, ap}
+use Rattle.std.proofs.Common.{◌∙◌, ◌++◌, ap}
 use Rattle.std.specs.Prelude.{string_bytes}
 use Rattle.generated_nets.specs.Generated.{top_text}
 use Rattle.generated_nets.proofs.TextLaws.{text_is_written}

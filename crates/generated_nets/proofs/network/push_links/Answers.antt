@@ -1,5 +1,5 @@
 -- The head of the street, and one junction after another.
-use Rattle.std.proofs.Common.{◌≡◌, ◌++◌, ◌∙◌, append_assoc, sym}
+use Rattle.std.proofs.Common.{◌++◌, ◌∙◌, append_assoc, sym}
 use Rattle.std.specs.Prelude.{string_bytes}
 use Rattle.generated_nets.specs.Generated.{junction_text, street_text}
 use Rattle.generated_nets.proofs.TextLaws.{junction_is_added, no_part, part_is_added}
