@@ -2,6 +2,8 @@
 #![tactic(auto)]
 
 #[cfg(test)]
+mod generated_networks;
+#[cfg(test)]
 mod network_files;
 #[cfg(test)]
 mod networks_built;
