@@ -1,0 +1,6 @@
+-- What is kept is right.
+use Rattle.kept_value.specs.Kept.{IsKeptOf}
+use Rattle.search_parts.proofs.changes.change_at_random.Given as goal
+
+abbrev pub invariant-loop : goal.invariant-loop
+invariant-loop l = IsKeptOf l.program l.kept
