@@ -6,7 +6,7 @@ ghost use Rattle.kept_value.specs.Kept.{IsKeptOf};
 use kept_value::KeptValue;
 use sparse_program::Program;
 
-/// So many changes of prices at random, in 1024ths of a unit of delay: of any row, by at most 64 units, where the price stays lawful.
+/// So many changes of prices at random, in 1024ths of a unit of delay: of any row, by less than 64 units, where the price stays lawful.
 pub fn change_at_random(program: &Program, kept: &mut KeptValue, count: u32)
     requires { IsKeptOf program.now kept.old }
     ensures { IsKeptOf program.now kept.new }
@@ -16,8 +16,8 @@ pub fn change_at_random(program: &Program, kept: &mut KeptValue, count: u32)
         state = next(state);
         let row = state >> 4;
         state = next(state);
-        let size = (state >> 15) as i64;
-        let by = if state >> 14 & 1 == 0 { size } else { -size };
+        let size = (state >> 16) as i64;
+        let by = if state >> 15 & 1 == 0 { size } else { -size };
         if 0 < program.rows() {
             change(program, kept, row % program.rows(), by);
         }
@@ -54,7 +54,7 @@ fn raise_all(program: &Program, kept: &mut KeptValue)
 fn change(program: &Program, kept: &mut KeptValue, row: u32, by: i64)
     requires of { IsKeptOf program.now kept.old }
     requires there { row < length program.now.rows }
-    requires few { unsigned_abs by ≤ 131072 }
+    requires few { unsigned_abs by ≤ 65536 }
     ensures { IsKeptOf program.now kept.new }
 {
     if kept.can_change(program, row, by) {

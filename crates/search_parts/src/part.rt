@@ -27,7 +27,7 @@ pub enum Part {
     Replays(u32),
     /// A climb of so many tries.
     Climb(u32),
-    /// A rounding of no point.
+    /// A rounding of no point, whatever the number.
     Round(u32),
 }
 
