@@ -21,6 +21,7 @@ TOP = pathlib.Path(__file__).resolve().parent.parent
 TIME = '/usr/bin/time'
 CPU_SECONDS = 100  # after so much work a run is ended
 ADOPT_ORPHANS = 36  # prctl's PR_SET_CHILD_SUBREAPER
+NAMED = re.compile(r'c?fn=(\(\d+\))(?: (.+))?')  # a function, whose name stands behind its number the first time
 ANNOTATED = re.compile(r' *([\d,]+) +\([ \d.]+%\)  [^:]*:(.+?)(?: \[[^]]*\])?')
 
 
@@ -29,6 +30,8 @@ class Counted(typing.NamedTuple):
     total: int
     functions: collections.Counter  # by name, without what a function calls; what was inlined counts where it stands
     printed: str
+    calls: collections.Counter  # by name, how often a function was called
+    within: collections.Counter  # by name, with what a function calls; what calls itself counts more than once
 
 
 class Run(typing.NamedTuple):
@@ -46,22 +49,40 @@ def program():
     return str(path)
 
 
-def instructions(words, status=0):
-    """Runs the words, a program and what it is told, which has to end with this status, and counts its instructions."""
+def called(text):
+    """How often each function was called, and the instructions of these calls, by what callgrind wrote."""
+    names, calls, within = {}, collections.Counter(), collections.Counter()
+    lines = iter(text.splitlines())
+    for line in lines:
+        named = NAMED.fullmatch(line)
+        if named and named[2]:
+            names[named[1]] = named[2]
+        if named and line.startswith('cfn='):
+            callee = names[named[1]]
+        elif line.startswith('calls='):
+            calls[callee] += int(line[6:].split()[0])
+            within[callee] += int(next(lines).split()[-1])
+    return calls, within
+
+
+def instructions(words, status=0, given=None):
+    """Runs the words, a program and what it is told, which has to end with this status, and counts its instructions. It may be given an
+    open file as its standard input."""
     with tempfile.TemporaryDirectory() as folder:
         out = folder + '/callgrind.out'
         done = subprocess.run(['valgrind', '--tool=callgrind', '--callgrind-out-file=' + out, *words],
-                              stdout=subprocess.PIPE, stderr=subprocess.PIPE)
+                              stdin=given, stdout=subprocess.PIPE, stderr=subprocess.PIPE)
         if done.returncode != status:
             sys.exit('bench: under valgrind this ended with %d, not %d: %s' % (done.returncode, status, ' '.join(map(str, words))))
-        total = re.search(r'^(?:totals|summary): (\d+)', pathlib.Path(out).read_text(), re.M)
+        text = pathlib.Path(out).read_text()
+        total = re.search(r'^(?:totals|summary): (\d+)', text, re.M)
         annotated = subprocess.run(['callgrind_annotate', '--threshold=100', '--auto=no', '--show-percs=yes', out],
                                    stdout=subprocess.PIPE, check=True)
     functions = collections.Counter()
     for found in map(ANNOTATED.fullmatch, annotated.stdout.decode().splitlines()):
         if found:
             functions[found[2]] += int(found[1].replace(',', ''))
-    return Counted(int(total[1]), functions, done.stdout.decode())
+    return Counted(int(total[1]), functions, done.stdout.decode(), *called(text))
 
 
 def run(words):
