@@ -22,7 +22,7 @@ import program as programs
 
 MOST_WORK = 8_000_000  # the most that a budget times the rows of a program may be
 MOST_KILOBYTES = 200_000
-BUDGETS = [(1, 86_000_000), (9, 115_000_000), (41, 244_000_000)]  # with the most instructions that are wanted
+BUDGETS = [(1, 3_470_000_000), (9, 3_940_000_000), (41, 6_080_000_000)]  # with the most instructions that are wanted
 
 
 def busy_ring():

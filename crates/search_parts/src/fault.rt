@@ -7,7 +7,7 @@ use std::alloc::AllocError;
 use std::io;
 
 /// Why no part was done, or no further one.
-#[derive(Clone, Copy, Debug, PartialEq, Eq)]
+#[derive(Clone, Copy)]
 pub enum Fault {
     /// There was not enough memory.
     Memory,

@@ -13,7 +13,7 @@ use lo_program::compile;
 use std::alloc::Global;
 
 /// A part of a search, with the number behind its name.
-#[derive(Clone, Copy, Debug, PartialEq, Eq)]
+#[derive(Clone, Copy)]
 pub enum Part {
     /// So many changes of prices, at random.
     Changes(u32),
