@@ -11,4 +11,4 @@ mod writer;
 pub use fault::PlanFault;
 pub use phase_rules::RunFault;
 pub use reader::read;
-pub use writer::write;
+pub use writer::{write, write_text};

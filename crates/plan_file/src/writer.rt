@@ -13,10 +13,19 @@ use named_net::NamedNet;
 use phase_rules::runs;
 use std::alloc::Global;
 
-/// The one text that spells the plan for the network.
+/// The one text that spells the plan for the network, as the bytes of a file.
 pub fn write(alloc: Global, named: &NamedNet, plan: &Plan) -> Result<Vec<u8>, Memory>
     requires { IsAdmissiblePlan named.now.net plan.now }
     ensures { IfOk result (λ text. Spells named.now text.items plan.now) }
+{
+    let text = write_text(alloc, named, plan)?;
+    Ok(text.into_bytes())
+}
+
+/// The same text as a string, which lines that are printed can hold.
+pub fn write_text(alloc: Global, named: &NamedNet, plan: &Plan) -> Result<String, Memory>
+    requires { IsAdmissiblePlan named.now.net plan.now }
+    ensures { IfOk result (λ text. Spells named.now (string_bytes text) plan.now) }
 {
     // What a named network keeps of its names: they fit it.
     let _names = named.names();
@@ -31,7 +40,7 @@ pub fn write(alloc: Global, named: &NamedNet, plan: &Plan) -> Result<Vec<u8>, Me
         )?;
     }
     text.push_str("end\n")?;
-    Ok(text.into_bytes())
+    Ok(text)
 }
 
 /// Adds the lines of a signal's block, whose word this is.

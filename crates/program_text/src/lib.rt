@@ -3,11 +3,13 @@
 
 mod fault;
 pub mod laws;
+mod limits;
 mod number;
 mod point;
 mod program;
 
 pub use fault::PointFault;
+pub use limits::MAX_POINT_BYTES;
 pub use point::{read_point, write_point};
 pub use program::write_program;
 pub use sparse_program::{Memory, Point, Program};

@@ -1,5 +1,6 @@
 -- Which certificates `check` and `gap` accept, where files are told: exactly those whose text shows its bound (docs/certificate.md,
--- "What is accepted").
+-- "What is accepted"). And which files `point` takes: exactly those that are the text of an integer point (docs/program.md, "From a
+-- point to its plan").
 use Rattle.std.specs.Prelude.{◌≡◌, ℕ, ◌≤◌, ◌⊎◌, ℤ, List, Option, Some, Result, Ok, IfSome}
 use Rattle.shelf_io.specs.Told.{Files, with_taken}
 use Rattle.ct_base.specs.declared.net.Net.{Net}
@@ -8,7 +9,8 @@ use Rattle.certificate_model.specs.Verdicts.{Accepts}
 use Rattle.certificate_model.specs.declared.constants.TheConstants.{MAX_CERTIFICATE_BYTES}
 use Rattle.signal_cli.specs.Answers.{content_in, network_in, sized_in, sized_planned_in}
 use Rattle.signal_cli.specs.BoundLines.{accepted_lines, gap_lines}
-use Rattle.signal_cli.specs.Commands.{Check, Command, Gap}
+use Rattle.signal_cli.specs.Commands.{Check, Command, Gap, Point}
+use Rattle.signal_cli.specs.Points.{DecidesPoint}
 use Rattle.signal_cli.specs.Worlds.{NoneFailed, World}
 use Rattle.signal_cli.specs.declared.fault.Fault.{Fault}
 use Rattle.signal_cli.specs.declared.input.Content.{Content}
@@ -48,8 +50,9 @@ PutsAccepted before after bound = after.out ≡ with_taken before.out (accepted_
 abbrev pub PutsCompared : World → World → ℤ → Type 0
 PutsCompared before after bound = (delay : ℕ) × (after.out ≡ with_taken before.out (gap_lines delay bound))
 
--- what `check` and `gap` decide where files are told
+-- what `check`, `gap` and `point` decide where files are told
 abbrev pub IsExact : Option Command → World → World → ℕ → Type 0
+IsExact (Some (Point network point)) before after status = IfSome before.shelf.files (λ files. DecidesPoint files network point before after status)
 IsExact (Some (Check network certificate)) before after status = IfSome before.shelf.files (λ files. Decides (sized_in files network) files network certificate before after (PutsAccepted before after) status)
 IsExact (Some (Gap network plan certificate)) before after status = IfSome before.shelf.files (λ files. Decides (sized_planned_in files network plan) files network certificate before after (PutsCompared before after) status)
 IsExact _ before after status = Unit {0}

@@ -24,8 +24,15 @@ use Rattle.lo_program.specs.Compiled.{size_faults}
 use Rattle.lo_program.specs.declared.fault.CompileFault.{CompileFault}
 use Rattle.plan_report.specs.Summary.{summary_lines}
 use Rattle.plan_report.specs.Table.{trace_text}
-use Rattle.program_text.specs.PointText.{point_text}
+use Rattle.program_text.specs.PointText.{point_text, spelled_point}
 use Rattle.program_text.specs.ProgramText.{program_text}
+use Rattle.program_text.specs.declared.fault.PointFault.{PointFault}
+use Rattle.program_text.specs.declared.fault.PointFault.TheVariants as unread
+use Rattle.program_text.specs.declared.limits.TheConstants.{MAX_POINT_BYTES}
+use Rattle.point_decode.specs.Decoded.{decoded}
+use Rattle.point_decode.specs.declared.broken.Broken.{Broken}
+use Rattle.point_decode.specs.declared.broken.Broken.TheVariants as broken
+use Rattle.point_decode.specs.declared.decoding.Decoded.{Decoded}
 use Rattle.refusals.specs.Faults.{unless}
 use Rattle.certificate_model.specs.Text.{certificate_text}
 use Rattle.certificate_model.specs.Verdicts.{IsVerdict}
@@ -37,8 +44,9 @@ use Rattle.solve_core.specs.Solved.{IsSolved, solve_faults}
 use Rattle.solve_core.specs.declared.fault.SolveFault.{SolveFault}
 use Rattle.solve_core.specs.declared.solved.Solved.{Solved}
 use Rattle.signal_cli.specs.BoundLines.{accepted_lines, gap_lines}
-use Rattle.signal_cli.specs.Commands.{Check, Command, Encode, Gap, Program, Replay, Solve, Trace}
+use Rattle.signal_cli.specs.Commands.{Check, Command, Encode, Gap, Point, Program, Replay, Solve, Trace}
 use Rattle.signal_cli.specs.Faults.{uncompiled_of, unsolved_of}
+use Rattle.signal_cli.specs.PointLines.{decoded_lines, refused_lines, too_long_lines}
 use Rattle.signal_cli.specs.RejectionLines.{long_lines, rejected_lines}
 use Rattle.signal_cli.specs.declared.fault.Fault.{Fault}
 use Rattle.signal_cli.specs.declared.fault.Fault.TheVariants.{NetworkLong, Network, PlanLong, Plan as PlanRefused, Read}
@@ -187,9 +195,9 @@ point_reply text planned =
 abbrev pub encode_in : Files → List ℕ → List ℕ → List ℕ → Result Reply Fault
 encode_in files network plan text = sized_planned_in files network plan >>= (λ planned. Ok (point_reply text planned))
 
--- what was read first, and what the named file holds as a certificate, which is read where there is no fault yet
-abbrev pub with_certificate : {X : Type 0} → Result X Fault → Files → List ℕ → Result (X × Content) Fault
-with_certificate first files certificate = first >>= (λ x. content_in files certificate MAX_CERTIFICATE_BYTES >>= (λ content. Ok (x, content)))
+-- what was read first, and what the named file holds of at most so many bytes, which is read where there is no fault yet
+abbrev pub with_content : {X : Type 0} → ℕ → Result X Fault → Files → List ℕ → Result (X × Content) Fault
+with_content limit first files name = first >>= (λ x. content_in files name limit >>= (λ content. Ok (x, content)))
 
 -- the reply that is due to what was read, or the fault that came in its place
 abbrev pub Follows : {X : Type 0} → Result X Fault → (X → Reply → Type 0) → Result Reply Fault → Type 0
@@ -197,9 +205,47 @@ Follows (Ok x) IsDue (Ok reply) = IsDue x reply
 Follows (Ok x) IsDue (Err fault) = ⊥
 Follows (Err fault) IsDue outcome = Err fault ≡ outcome
 
--- lines that say why a certificate is not accepted
+-- lines that say why a certificate or a point is not accepted
 abbrev pub rejection : List ℕ → Reply
 rejection lines = record { rejected = true; lines = lines; outputs = [] }
+
+-- the reply to what breaks a list of values: how many there are, or the first column or row that is at fault
+abbrev pub IsBrokenReply : Broken → Reply → Type 0
+IsBrokenReply (broken.Length values) reply = reply ≡ rejection (refused_lines (codes "length") values)
+IsBrokenReply (broken.Column number) reply = reply ≡ rejection (refused_lines (codes "column") number)
+IsBrokenReply (broken.Row number) reply = reply ≡ rejection (refused_lines (codes "row") number)
+IsBrokenReply broken.Memory reply = ⊥
+
+-- the reply to a plan that a list of values shows: its delay, and the text that spells it
+pub record IsPlanReply (named : Named) (shown : Decoded) (reply : Reply) : Type 0 where
+  pub text : List ℕ
+  pub spells : Spells named text shown.plan
+  pub is : reply ≡ printed (decoded_lines shown.delay text)
+
+-- the reply to what a list of values comes to
+abbrev pub IsValuesReply : Named → Result Decoded Broken → Reply → Type 0
+IsValuesReply named (Ok shown) reply = IsPlanReply named shown reply
+IsValuesReply named (Err fault) reply = IsBrokenReply fault reply
+
+-- the reply to the values that a text spells, or to its first line at fault
+abbrev pub IsTextReply : Named → Result (List ℤ) PointFault → Reply → Type 0
+IsTextReply named (Ok values) reply = IsValuesReply named (decoded named.net values) reply
+IsTextReply named (Err (unread.Form number)) reply = reply ≡ rejection (refused_lines (codes "form") number)
+IsTextReply named (Err unread.Memory) reply = ⊥
+
+-- the reply to what a file holds as a point of a network's program
+abbrev pub IsPointReply : Named → Content → Reply → Type 0
+IsPointReply named TooLong reply = reply ≡ rejection too_long_lines
+IsPointReply named (Whole bytes) reply = IsTextReply named (spelled_point bytes) reply
+
+-- `point NET POINT`
+abbrev pub PointGives : List ℕ → List ℕ → Files → Result Reply Fault → Type 0
+PointGives network point files outcome =
+    Follows (with_content MAX_POINT_BYTES (sized_in files network) files point) (λ read. IsPointReply read.0 read.1) outcome
+
+-- what was read first, and what the named file holds as a certificate
+abbrev pub with_certificate : {X : Type 0} → Result X Fault → Files → List ℕ → Result (X × Content) Fault
+with_certificate first files certificate = with_content MAX_CERTIFICATE_BYTES first files certificate
 
 -- the reply to what a file holds as a certificate for a network: that it is too long, or what is answered to its verdict
 abbrev pub IsJudged : Net → (Verdict → Reply) → Content → Reply → Type 0
@@ -271,6 +317,7 @@ Deserves (Replay network plan) files outcome = replay_of files network plan ≡ 
 Deserves (Trace network plan table) files outcome = trace_in files network plan table ≡ outcome
 Deserves (Program network text) files outcome = program_in files network text ≡ outcome
 Deserves (Encode network plan text) files outcome = encode_in files network plan text ≡ outcome
+Deserves (Point network point) files outcome = PointGives network point files outcome
 Deserves (Check network certificate) files outcome = CheckGives network certificate files outcome
 Deserves (Gap network plan certificate) files outcome = GapGives network plan certificate files outcome
 Deserves (Solve network budget plan certificate) files outcome = SolveGives network budget plan certificate files outcome

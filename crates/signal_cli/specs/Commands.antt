@@ -10,6 +10,7 @@ pub data Command : Type 0 where
   Trace : (network plan table : List ℕ) → Command
   Program : (network text : List ℕ) → Command
   Encode : (network plan text : List ℕ) → Command
+  Point : (network point : List ℕ) → Command
   Check : (network certificate : List ℕ) → Command
   Gap : (network plan certificate : List ℕ) → Command
   Solve : (network : List ℕ) (budget : ℕ) (plan certificate : List ℕ) → Command
@@ -21,6 +22,7 @@ inputs_of (Replay network (Some plan)) = network ∷ plan ∷ []
 inputs_of (Trace network plan table) = network ∷ plan ∷ []
 inputs_of (Program network text) = network ∷ []
 inputs_of (Encode network plan text) = network ∷ plan ∷ []
+inputs_of (Point network point) = network ∷ point ∷ []
 inputs_of (Check network certificate) = network ∷ certificate ∷ []
 inputs_of (Gap network plan certificate) = network ∷ plan ∷ certificate ∷ []
 inputs_of (Solve network budget plan certificate) = network ∷ []
@@ -31,6 +33,7 @@ outputs_of (Replay network plan) = []
 outputs_of (Trace network plan table) = table ∷ []
 outputs_of (Program network text) = text ∷ []
 outputs_of (Encode network plan text) = text ∷ []
+outputs_of (Point network point) = []
 outputs_of (Check network certificate) = []
 outputs_of (Gap network plan certificate) = []
 outputs_of (Solve network budget plan certificate) = plan ∷ certificate ∷ []
@@ -60,7 +63,8 @@ form_of (command ∷ network ∷ []) = if bytes_eq command (codes "replay") then
 form_of (command ∷ network ∷ second ∷ []) =
     if bytes_eq command (codes "replay") then Some (Replay network (Some second)) else
     (if bytes_eq command (codes "program") then Some (Program network second) else
-    (if bytes_eq command (codes "check") then Some (Check network second) else None))
+    (if bytes_eq command (codes "point") then Some (Point network second) else
+    (if bytes_eq command (codes "check") then Some (Check network second) else None)))
 form_of (command ∷ network ∷ plan ∷ third ∷ []) =
     if bytes_eq command (codes "trace") then Some (Trace network plan third) else
     (if bytes_eq command (codes "encode") then Some (Encode network plan third) else

@@ -4,6 +4,8 @@ pub mod BoundLines
 pub mod Bounds
 pub mod Commands
 pub mod Faults
+pub mod PointLines
+pub mod Points
 pub mod Program
 pub mod Promises
 pub mod RejectionLines

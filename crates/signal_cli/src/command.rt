@@ -36,6 +36,11 @@ pub enum Command<'a> {
         plan: &'a str,
         text: &'a str,
     },
+    /// The plan whose point a list of values is.
+    Point {
+        network: &'a str,
+        point: &'a str,
+    },
     /// Whether a certificate shows its bound for a network.
     Check {
         network: &'a str,
@@ -87,6 +92,10 @@ fn form(words: &[Text]) -> Option<Command<'_>>
         [command, network, text] if command.as_str() == "program" => Some(Command::Program {
             network: network.as_str(),
             text: text.as_str(),
+        }),
+        [command, network, point] if command.as_str() == "point" => Some(Command::Point {
+            network: network.as_str(),
+            point: point.as_str(),
         }),
         [command, network, certificate] if command.as_str() == "check" => Some(Command::Check {
             network: network.as_str(),
@@ -173,6 +182,7 @@ fn has_names(command: &Command<'_>) -> bool
             plan,
             text,
         } => are_three_names(network, plan, text),
+        Command::Point { network, point } => are_two_names(network, point),
         Command::Check {
             network,
             certificate,

@@ -9,6 +9,7 @@ ghost use Rattle.signal_cli.specs.inner.CommandViews.{HasBudget, view_of};
 mod check;
 mod encode;
 mod gap;
+mod point;
 mod program;
 mod rejection;
 mod replay;
@@ -40,6 +41,7 @@ pub fn answer<F: Shelf>(alloc: Global, command: Command<'_>, shelf: &mut F) -> R
             plan,
             text,
         } => encode::encode(alloc, network, plan, text, shelf),
+        Command::Point { network, point } => point::point(alloc, network, point, shelf),
         Command::Check {
             network,
             certificate,

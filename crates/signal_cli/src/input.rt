@@ -1,6 +1,6 @@
-//! What a command reads whole: networks and plans, each judged as soon as its bytes are there.
+//! What a command reads whole: networks and plans, each judged as soon as its bytes are there, and the bytes of other files.
 
-ghost use Rattle.std.specs.Prelude.{◌≡◌, [], false, Err, IfErr, IfOk, OnOk};
+ghost use Rattle.std.specs.Prelude.{◌≡◌, ◌≤◌, [], false, Err, IfErr, IfOk, OnOk};
 ghost use Rattle.std.specs.Str.{bytes_eq};
 ghost use Rattle.traffic_model.specs.Runs.{IsAdmissiblePlan};
 ghost use Rattle.lo_program.specs.Compiled.{size_faults};
@@ -38,7 +38,7 @@ pub struct Planned {
 pub fn read_network<F: Shelf>(alloc: Global, shelf: &mut F, name: &str) -> Result<NamedNet, Fault>
     ensures { Finds (λ files outcome. network_in files name.now ≡ outcome) result (F.state shelf.old) (F.state shelf.new) }
 {
-    let content = read_content(alloc, shelf, name)?;
+    let content = read_content(alloc, shelf, name, MAX_FILE_BYTES)?;
     let named = network_from(alloc, content)?;
     Ok(named)
 }
@@ -98,7 +98,7 @@ fn read_plan<F: Shelf>(
     ensures found { Finds (λ files outcome. plan_in named.now files name.now ≡ outcome) result (F.state shelf.old) (F.state shelf.new) }
     ensures admissible { IfOk result (IsAdmissiblePlan named.now.net) }
 {
-    let content = read_content(alloc, shelf, name)?;
+    let content = read_content(alloc, shelf, name, MAX_FILE_BYTES)?;
     let plan = plan_from(alloc, named, content)?;
     Ok(plan)
 }
@@ -137,11 +137,17 @@ pub fn read_sized_planned<F: Shelf>(
     Ok(Planned { named, plan })
 }
 
-/// What a file of a network or of a plan holds.
-fn read_content<F: Shelf>(alloc: Global, shelf: &mut F, name: &str) -> Result<Content, Fault>
-    ensures { Finds (λ files outcome. content_in files name.now MAX_FILE_BYTES ≡ outcome) result (F.state shelf.old) (F.state shelf.new) }
+/// What a file holds that is read whole: all its bytes, or more than the limit.
+pub fn read_content<F: Shelf>(
+    alloc: Global,
+    shelf: &mut F,
+    name: &str,
+    limit: u64,
+) -> Result<Content, Fault>
+    requires { limit ≤ 134217728 }
+    ensures { Finds (λ files outcome. content_in files name.now limit ≡ outcome) result (F.state shelf.old) (F.state shelf.new) }
 {
-    match read_all(alloc, shelf, name, MAX_FILE_BYTES) {
+    match read_all(alloc, shelf, name, limit) {
         Ok(bytes) => Ok(Content::Whole(Listed::of(bytes))),
         Err(end) => ended(end),
     }

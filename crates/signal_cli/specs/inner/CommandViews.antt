@@ -3,7 +3,7 @@ use Rattle.std.specs.Prelude.{◌≤◌}
 use Rattle.std.specs.Option.{option_copied}
 use Rattle.signal_cli.specs.Commands as said
 use Rattle.signal_cli.specs.declared.command.Command.{Command}
-use Rattle.signal_cli.specs.declared.command.Command.TheVariants.{Check, Encode, Gap, Program, Replay, Solve, Trace}
+use Rattle.signal_cli.specs.declared.command.Command.TheVariants.{Check, Encode, Gap, Point, Program, Replay, Solve, Trace}
 
 -- the command with the bytes of its names
 abbrev pub view_of : Command → said.Command
@@ -11,6 +11,7 @@ view_of (Replay network plan) = said.Replay network.now (option_copied plan)
 view_of (Trace network plan table) = said.Trace network.now plan.now table.now
 view_of (Program network text) = said.Program network.now text.now
 view_of (Encode network plan text) = said.Encode network.now plan.now text.now
+view_of (Point network point) = said.Point network.now point.now
 view_of (Check network certificate) = said.Check network.now certificate.now
 view_of (Gap network plan certificate) = said.Gap network.now plan.now certificate.now
 view_of (Solve network budget plan certificate) = said.Solve network.now budget plan.now certificate.now

@@ -12,6 +12,9 @@ returns-in-Program g c = rw c.in-Program.is c.program.ensures
 pub returns-in-Encode : goal.returns-in-Encode
 returns-in-Encode g c = rw c.in-Encode.is c.encode.ensures
 
+pub returns-in-Point : goal.returns-in-Point
+returns-in-Point g c = rw c.in-Point.is c.point.ensures
+
 pub returns-in-Check : goal.returns-in-Check
 returns-in-Check g c = rw c.in-Check.is c.check.ensures
 

@@ -4,7 +4,7 @@ use Rattle.std.specs.Prelude.{string_bytes}
 use Rattle.std.proofs.lemmas.List.{get_or_read}
 use Rattle.ct_base.specs.declared.net.Net.{Net}
 use Rattle.plan_file.proofs.WriteLaws.{text_below-more, text_below-none, text_spells}
-use Rattle.plan_file.proofs.writer.write.Goals as goal
+use Rattle.plan_file.proofs.writer.write_text.Goals as goal
 
 pub loop-signal-init : goal.loop-signal-init
 loop-signal-init c = c.in_ok-text.ensures.ok ∙ sym (text_below-none c.args.named.now.names c.args.plan.now)
@@ -22,5 +22,5 @@ loop-signal-preserved c =
 pub returns : goal.returns
 returns c =
     let signals : c.len-signal-end.result ≡ length c.args.named.now.net.signals = c.len-signal-end.ensures ∙ ap (λ (net : Net). length net.signals) c.net.ensures.value in
-    text_spells c.args.named.now c.args.plan.now c.loop-signal.signal (string_bytes c.loop-signal.text) c.into_bytes.result.items c.names-names.ensures.fits c.requires (omega arith) c.loop-signal.invariant
-    (rw c.into_bytes.ensures.value c.in_ok-push_str.ensures.bytes)
+    text_spells c.args.named.now c.args.plan.now c.loop-signal.signal (string_bytes c.loop-signal.text) (string_bytes c.push_str.new.self) c.names-names.ensures.fits c.requires (omega arith) c.loop-signal.invariant
+    c.in_ok-push_str.ensures.bytes
