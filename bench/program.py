@@ -5,8 +5,10 @@ usage: bench/program.py [PROGRAM]
 
 The crossing: four arms of five cells and a queue each meet at a signal of two phases, with two steps of clearance. North and
 south lead straight on, east and west diverge with 3 units of a parcel straight on and 1 to a side, and four roads of two cells
-lead out: 32 cells over 60 steps, 17,966 rows. `program` and `encode` run on it under `valgrind --tool=callgrind`, and `program`
-on its first 30 steps too, so that the growth with the horizon is seen.
+lead out: 32 cells over 60 steps, 17,966 rows. `program`, `encode` and `point`, on what `encode` wrote, run on it under
+`valgrind --tool=callgrind`, and `program` on its first 30 steps too, so that the growth with the horizon is seen. `point` on a text
+of no values makes the program and refuses them by their length; what the whole point takes beyond that is its reading, the bounds
+and rows that it is tried on, and its plan with the replay and the text.
 
 The ring: 64 links over 240 steps, each a diverge of 2 units of a parcel to each of the next four, with one signal of four
 phases that keeps the merges apart, and as many cells as the most rows of a program let it have: of networks that were thought
@@ -83,16 +85,22 @@ def counted(program, folder):
     for name, text in [('60.toml', crossing(60)), ('30.toml', crossing(30)), ('60.plan', crossing_plan(60)), ('ring.toml', ring()),
                        ('long.toml', long_link())]:
         (folder / name).write_text(text)
+    (folder / 'none').write_text('ctm-point 1\nend\n')
     out = folder / 'out'
 
     def instructions(*words, status=0):
-        run = measure.instructions([program, words[0], *(folder / name for name in words[1:]), out], status)
-        print('%s: %s' % (' '.join(words), run.printed.strip().replace('\n', ', ')))
+        outputs = [] if words[0] == 'point' else [out]
+        run = measure.instructions([program, words[0], *(folder / name for name in words[1:]), *outputs], status)
+        print('%s: %s' % (' '.join(words), ', '.join(run.printed.split('\n')[:3]).removesuffix(', ')))
         return run.total
 
     whole = instructions('program', '60.toml')
     yield 'instructions of the program of the crossing', whole, 35_100_000
     yield 'instructions of the point of a plan of the crossing', instructions('encode', '60.toml', '60.plan'), 15_500_000
+    out.rename(folder / '60.point')
+    decoded = instructions('point', '60.toml', '60.point')
+    yield 'instructions of the plan of that point', decoded, 52_000_000
+    yield 'the same beyond a text of no values', decoded - instructions('point', '60.toml', 'none', status=1), 16_800_000
     yield 'permille of the instructions of 60 steps to those of 30', 1000 * whole // instructions('program', '30.toml'), 2100
     yield 'instructions of the refusal of the long link', instructions('program', 'long.toml', status=5), None
     run = measure.run([program, 'program', folder / 'ring.toml', out])

@@ -126,6 +126,16 @@ OTHERS = [
     ('cert:1: the line is "ctm-plan 1"; it has to be `ctm-cert 1`', 1, ['check', 'three-steps.toml', 'cert'], {'cert': TURNS}),
     ('cert:3: "split 400 0": the network\'s program has no such column; is this the certificate of another network?', 1,
      ['check', 'three-steps.toml', 'cert'], {'cert': b'ctm-cert 1\nbound 0\nsplit 400 0\nfixed\nfixed\nend\n'}),
+    ('point:1: the line is "ctm-plan 1"; it has to be `ctm-point 1`', 1, ['point', 'three-steps.toml', 'point'], {'point': TURNS}),
+    ('point:2: the line is "+3"; it has to be a whole number of at most 15 digits, or `end` as the last line', 1,
+     ['point', 'three-steps.toml', 'point'], {'point': b'ctm-point 1\n+3\nend\n'}),
+    ('point: it has 1 values, and the network\'s program has 48 columns; is this the point of another network?', 1,
+     ['point', 'three-steps.toml', 'point'], {'point': b'ctm-point 1\n1\nend\n'}),
+    ('point:4: the value of column 2, `green_t1_s_a`, is 2, and it may be 0 to 1', 1,
+     ['point', 'three-steps.toml', 'point'], {'point': b'ctm-point 1\n1\n0\n2\n' + b'0\n' * 45 + b'end\n'}),
+    ('point: row 1, `after_green_t0_s_a`, is not met: it comes to -1, and has to be at least 0', 1,
+     ['point', 'three-steps.toml', 'point'], {'point': b'ctm-point 1\n1\n0\n0\n0\n0\n0\n' + b'1\n0\n0\n0\n0\n' * 2 + b'0\n' * 32 + b'end\n'}),
+    ('missing.txt: there is no such file', 6, ['point', 'one-link.toml', 'missing.txt'], {}),
     ('two-links.toml:16: warning: a cell of link `b` that holds its `cap` of 1 takes 0 in a step, so the link never carries its '
      'capacity', 0, ['replay', 'two-links.toml'], {}),
 ]

@@ -3,15 +3,17 @@
 
 usage: tools/compile.py NET [PLAN]   (Python 3.11, for tomllib)
 
-It prints the text that `program NET OUT` has to write, or with PLAN that of `encode NET PLAN OUT`. Where tools/judge.py refuses
+It prints the text that `program NET OUT` has to write, or with PLAN that of `encode NET PLAN OUT`. `answer_of_point` says what
+`point NET POINT` has to print, from the bytes of both files. Where tools/judge.py refuses
 a file, or the network has too many rows, it prints the refusal's line and ends with its status. What a replay holds comes from
 tools/replay.py, and all else is written down here a second time, so that a rule that was misunderstood in the program shows as
 a difference (tools/fuzz.py). Columns and rows have names that say what they mean (tools/program-to-lp).
 
-`fault_of` says what is wrong with a point of a program, and `objective_of` what it costs. Both know nothing of networks: they
-look at the bounds, the rows and the costs that a text tells.
+`first_fault` and `fault_of` say what is wrong with a point of a program, and `objective_of` what it costs. They know nothing of
+networks: they look at the bounds, the rows and the costs that a text tells.
 """
 import collections
+import re
 import sys
 import typing
 
@@ -19,6 +21,8 @@ import judge
 import replay
 
 MOST_ROWS = 400_000
+LONGEST_POINT = 16_777_216  # bytes
+WHOLE = re.compile(b'0|-?[1-9][0-9]{0,14}')  # a value, as a point's text has it
 
 
 class Column(typing.NamedTuple):
@@ -427,23 +431,94 @@ def read_point(text):
 
 # Points of a program, by what its text tells.
 
-def fault_of(program, values):
-    """What is wrong with values as a point, or None: their number, the first column out of its bounds, the first row that is not
-    met."""
+def total_of(row, values):
+    return sum(coefficient * values[column] for column, coefficient in row.terms.items())
+
+
+def first_fault(program, values):
+    """What keeps values from being a point, or None: `length` with how many they are, `column` with the number of the first that is
+    out of its bounds, or `row` with that of the first that is not met."""
     if len(values) != len(program.columns):
-        return '%d values for %d columns' % (len(values), len(program.columns))
-    for column, value in zip(program.columns, values):
+        return 'length', len(values)
+    for number, (column, value) in enumerate(zip(program.columns, values)):
         if not column.low <= value <= column.high:
-            return 'column %s is %d, out of %d to %d' % (column.name, value, column.low, column.high)
-    for row in program.rows:
-        total = sum(coefficient * values[column] for column, coefficient in row.terms.items())
+            return 'column', number
+    for number, row in enumerate(program.rows):
+        total = total_of(row, values)
         if total < row.right or (row.relation == 'eq' and total > row.right):
-            return 'row %s comes to %d, not %s %d' % (row.name, total, row.relation, row.right)
+            return 'row', number
     return None
+
+
+def fault_of(program, values):
+    """The same as a sentence, or None."""
+    fault = first_fault(program, values)
+    if fault is None:
+        return None
+    what, number = fault
+    if what == 'length':
+        return '%d values for %d columns' % (number, len(program.columns))
+    if what == 'column':
+        column = program.columns[number]
+        return 'column %s is %d, out of %d to %d' % (column.name, values[number], column.low, column.high)
+    row = program.rows[number]
+    return 'row %s comes to %d, not %s %d' % (row.name, total_of(row, values), row.relation, row.right)
 
 
 def objective_of(program, values):
     return sum(column.cost * value for column, value in zip(program.columns, values))
+
+
+# From a point's file to its plan.
+
+def broken_line(data):
+    """The number of the first line that breaks the text of a point, from 1; 0 where none does."""
+    lines = data.split(b'\n')  # each but the last has its line feed
+    if len(lines) == 1 or lines[0] != b'ctm-point 1':
+        return 1
+    for number, line in enumerate(lines[1:-1], 2):
+        if line == b'end':
+            return 0 if lines[number:] == [b''] else number + 1
+        if not WHOLE.fullmatch(line):
+            return number
+    return len(lines)
+
+
+def runs_of(letters):
+    """The runs of one signal's letters, (kind, phase) for each step: phase and greens."""
+    runs = []
+    for t, (kind, phase) in enumerate(letters):
+        if kind == 'green' and t and letters[t - 1] == (kind, phase):
+            runs[-1][1] += 1
+        elif kind == 'green':
+            runs.append([phase, 1])
+    return runs
+
+
+def plan_of(compiler, values):
+    """The text of the plan whose bits a point begins with."""
+    lines = ['ctm-plan 1']
+    for signal in compiler.shape.signals:
+        lines.append('signal ' + signal['name'])
+        letters = [next(letter for letter in letters_of(signal) if values[compiler.keys[letter[0], t, signal['name'], letter[1]]])
+                   for t in range(compiler.shape.steps)]
+        lines += ['%s %d' % (phase, green) for phase, green in runs_of(letters)]
+    return '\n'.join(lines + ['end']) + '\n'
+
+
+def told_of_point(net, compiler, program, data):
+    """The status and the printed text of `point` on the bytes of a point, for a network with its columns and its program."""
+    if len(data) > LONGEST_POINT:
+        fault = 'long', 0
+    elif line := broken_line(data):
+        fault = 'form', line
+    else:
+        values = read_point(data.decode())
+        fault = first_fault(program, values)
+    if fault:
+        return 1, 'rejected\nwhy %s\nat %d\n' % fault
+    plan = plan_of(compiler, values)
+    return 0, 'point\ndelay %d\n%s' % (replay.replay(net, plan)[0], plan)
 
 
 # What the program has to say and write, which is compared whole.
@@ -468,6 +543,15 @@ def answer_of_encode(network, plan):
     except (judge.Refused, TooLarge) as refused:
         return refused.status, refused.line + '\n', None
     return 0, 'columns %d\n' % len(values), point_text(values)
+
+
+def answer_of_point(network, data):
+    """The status and the printed text of `point` on the bytes of a network and of a point."""
+    try:
+        net = judge.judge_network(network)
+        return told_of_point(net, compiler_of(net), program_of(net), data)
+    except (judge.Refused, TooLarge) as refused:
+        return refused.status, refused.line + '\n'
 
 
 def main():

@@ -7,11 +7,13 @@ Case k of a seed is always the same: a small valid network with an admissible pl
 or two changes of the network, of the plan or of the bytes of one of them; every 500th is a network of 256 cells over 240 steps.
 Where the judge accepts both files, `replay` and `trace` have to print what the replay gives, `trace` has to write its table, and
 `program` and `encode` have to print and write what tools/compile.py gives, whole texts. The point that was written is tried on
-the program that was written: each bound, each row, and the objective, which has to be the delay. Else the four have to print
-the judge's line, or `too large` where a network has more than 400,000 rows, and no file may be made; `program` looks at no plan.
-A case without a plan gets the plan of no signals for `trace` and `encode`, which is judged alike. Statuses are compared too,
-standard error has to be empty, and in the case's own folder nothing else may change. The program is the built one (run
-./planner first) or the one that is named.
+the program that was written: each bound, each row, and the objective, which has to be the delay. `point` has to give the plan
+back, and to name the first fault where a value of one column of each kind is changed, where values are missing or too many, and
+where the text is damaged, as tools/compile.py does. Else the four have to print the judge's line, or `too large` where a network
+has more than 400,000 rows, and no file may be made; `program` and `point` look at no plan: a plan's file is no text of a point. A
+case without a plan gets the plan of no signals for `trace` and `encode`, which is judged alike. Statuses are compared too, standard
+error has to be empty, and in the case's own folder nothing else may change. The program is the built one (run ./planner first) or
+the one that is named.
 
 At the end stands how often each answer came and, from 2000 cases on, which of all refusals never came; the last line
 counts. The status is 0 where all cases passed and none of these is missing. The folder of a case that failed is kept, and named.
@@ -751,6 +753,8 @@ def expected(network, plan):
         runs.append(Run([command, *names, command + '.txt'], status, printed, made))
         if status in (0, 5):
             words.append('%s %s' % (command, 'too large' if status else 'made'))
+        if command == 'program':
+            runs.append(Run(['point', 'net.toml', 'net.plan'], status or 1, printed if status else 'rejected\nwhy form\nat 1\n', {}))
     return runs, words
 
 
@@ -766,6 +770,7 @@ def wanted_words():
     """Each answer that a long run has to hit."""
     words = ['replay', 'replay and a signal', 'replay of turns', 'replay of turns and a signal']
     words += ['program made', 'program too large', 'encode made', 'encode too large']
+    words += ['point of a plan', 'point form', 'point length', 'point column', 'point row']
     words += ['network long', 'network toml', 'network format']
     no_range = {('top', 'format'), ('link', 'to'), ('link', 'signal'), ('turn', 'link'), ('signal', 'start')}
     for kind, keys in judge.KEYS.items():
@@ -802,14 +807,79 @@ def faults_of(program, folder, network, plan):
             if behind.get(name) != files.get(name):
                 faults.append('%s did not leave %s as it has to be' % (run.words[0], name))
     if 'encode.txt' in files and not faults:
-        faults += point_faults(folder, network, files['net.plan'])
+        compiled = compile.read_program((folder / 'program.txt').read_text())
+        values = compile.read_point((folder / 'encode.txt').read_text())
+        faults += point_faults(compiled, values, network, files['net.plan'])
+        told, named = decoding_faults(program, folder, compiled, values, network, files['net.plan'])
+        faults, words = faults + told, words + named
     return faults, words
 
 
-def point_faults(folder, network, plan):
+# Points whose values are changed.
+
+def changed_values(random, compiler, program, values):
+    """Lists of values beside the point: for each kind of column one whose value is another, mostly within its bounds, and lists with
+    a value too few and one too many."""
+    kinds = collections.defaultdict(list)
+    for key, number in compiler.keys.items():
+        kinds[key[0]].append(number)
+    for kind in sorted(kinds):
+        free = [k for k in kinds[kind] if program.columns[k].low < program.columns[k].high]
+        k = random.choice(free or kinds[kind])
+        low, high = program.columns[k].low, program.columns[k].high
+        beside = [value for value in (values[k] - 1, values[k] + 1, low, high) if low <= value <= high and value != values[k]]
+        value = random.choice(beside) if beside and random.random() < 0.8 else random.choice([low - 1, high + 1, -10 ** 15 + 1])
+        yield kind, values[:k] + [value] + values[k + 1:]
+    yield 'length', values[:-1]
+    yield 'length', values + [random.choice([0, 1])]
+
+
+def damaged_point(random, text):
+    """The bytes of a point whose text is damaged at a line."""
+    lines = text.split('\n')[:-1]
+    kind = random.choice(['value', 'value', 'head', 'end', 'cut', 'behind', 'line'])
+    place = random.randrange(1, len(lines) - 1)
+    if kind == 'value':
+        lines[place] = random.choice(['+%s', '0%s', '-0%s', ' %s', '%s ', '%s.0', '', '1' + '0' * 15, '-', 'x', '\u0663', '%s\r'])
+        lines[place] = lines[place].replace('%s', text.split('\n')[place])
+    elif kind == 'head':
+        lines[0] = random.choice(['ctm-point 2', 'ctm-point  1', 'ctm-plan 1', '', 'ctm-point 1 '])
+    elif kind == 'end':
+        lines[-1] = random.choice(['end ', 'End', '', '0'])
+    elif kind == 'line':
+        lines.insert(place, random.choice(['', 'end', '# why', 'ctm-point 1']))
+    data = '\n'.join(lines).encode() + b'\n'
+    if kind == 'cut':
+        return data[:random.randrange(len(data))]
+    return data + random.choice([b'\n', b'x', b'end\n', b'0\n', b'\x00']) if kind == 'behind' else data
+
+
+def decoding_faults(program, folder, compiled, values, network, plan):
+    """What `point` says otherwise than it has to, of the point and of files beside it, and the words for the tally."""
+    rng = random.Random(network + plan)
+    net = judge.judge_network(network)
+    compiler = compile.compiler_of(net)
+    text = (folder / 'encode.txt').read_text()
+    tried = [('whole', text.encode())]
+    tried += [(kind, compile.point_text(changed).encode()) for kind, changed in changed_values(rng, compiler, compiled, values)]
+    tried += [('text', damaged_point(rng, text))]
+    if len(values) > 20_000:  # a large one is tried whole, and with one change
+        tried = [tried[0], rng.choice(tried[1:])]
+    faults, words = [], []
+    for kind, data in tried:
+        (folder / 'changed.txt').write_bytes(data)
+        status, printed = compile.told_of_point(net, compiler, compiled, data)
+        if kind == 'whole' and printed.split('\n', 2)[2:] != [plan.decode()]:
+            faults.append('the point of a plan shows another one by tools/compile.py')
+        done = subprocess.run([program, 'point', 'net.toml', 'changed.txt'], cwd=folder, stdout=subprocess.PIPE, stderr=subprocess.PIPE)
+        if (done.returncode, done.stdout, done.stderr) != (status, printed.encode(), b''):
+            faults.append('point with another %s ended with %d and printed %r, not %r' % (kind, done.returncode, done.stdout, printed))
+        words.append('point %s' % (printed.split('\n')[1][4:] if status else 'of a plan'))
+    return faults, words
+
+
+def point_faults(program, values, network, plan):
     """What is wrong with the point that was written as one of the program that was written."""
-    program = compile.read_program((folder / 'program.txt').read_text())
-    values = compile.read_point((folder / 'encode.txt').read_text())
     fault = compile.fault_of(program, values)
     objective = compile.objective_of(program, values)
     delay, _ = replay.replay(judge.judge_network(network), plan.decode())

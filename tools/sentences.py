@@ -5,7 +5,7 @@ usage: tools/sentences.py PROGRAM STATUS WORDS..   (Python 3.11, for tomllib)
 
 ./planner calls it when the program has ended, with the status and the words of that run, and puts what it prints on standard
 error. What the program printed went where it goes, so for the statuses 3 and 4 the line is asked for once more, by a `replay` of the same
-files, and for status 1 by the `check` of the same certificate: neither writes a file. Of every other status the words and the files
+files, and for status 1 by the `check` of the same certificate or the `point` of the same list: none writes a file. Of every other status the words and the files
 tell enough. A line begins with the file, and the line in it where there is one.
 """
 import os
@@ -25,11 +25,12 @@ import compile
 import judge
 import network_sentences
 import plan_sentences
+import point_sentences
 from named_network import NamedNetwork, Remark, meant, told
 
 FORMS = ['solve NET BUDGET PLANOUT CERTOUT', 'replay NET', 'replay NET PLAN', 'trace NET PLAN OUT', 'program NET OUT',
-         'encode NET PLAN OUT', 'check NET CERT', 'gap NET PLAN CERT']
-INPUTS = ['NET', 'PLAN', 'CERT']
+         'encode NET PLAN OUT', 'point NET POINT', 'check NET CERT', 'gap NET PLAN CERT']
+INPUTS = ['NET', 'PLAN', 'CERT', 'POINT']
 OUTPUTS = ['OUT', 'PLANOUT', 'CERTOUT']
 NUMBERS = ['BUDGET']
 MOST_BUDGET = 2 ** 32 - 1
@@ -64,6 +65,16 @@ def of_accepted(_, named):
 def of_certificate(program, named):
     printed = line_of(program, ['check', named['NET'], named['CERT']])
     return [told(named['CERT'], certificate_sentences.remark_of(printed, named['CERT']))]
+
+
+def of_point(program, named):
+    printed = line_of(program, ['point', named['NET'], named['POINT']])
+    net = judge.judge_network(front_of_file(named['NET']))
+    return [told(named['POINT'], point_sentences.remark_of(printed, net, named['POINT']))]
+
+
+def of_rejected(program, named):
+    return (of_point if 'POINT' in named else of_certificate)(program, named)
 
 
 def of_words(_, words):
@@ -181,7 +192,7 @@ def fault_of_output(name):
     return 'it cannot be written to its end: the device is full' if is_full else None
 
 
-BY_STATUS = {0: of_accepted, 1: of_certificate, 3: of_network, 4: of_plan, 5: of_size, 6: of_read, 7: of_write}
+BY_STATUS = {0: of_accepted, 1: of_rejected, 3: of_network, 4: of_plan, 5: of_size, 6: of_read, 7: of_write}
 
 
 def sentences(program, status, words):

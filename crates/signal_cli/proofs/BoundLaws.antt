@@ -16,7 +16,6 @@ use Rattle.refusals.specs.Faults.{unless}
 use Rattle.lo_program.specs.Compiled.{size_faults}
 use Rattle.lo_program.specs.declared.fault.CompileFault.{CompileFault}
 use Rattle.certificate_model.specs.Verdicts.{IsVerdict}
-use Rattle.certificate_model.specs.declared.constants.TheConstants.{MAX_CERTIFICATE_BYTES}
 use Rattle.certificate_model.specs.declared.verdict.Verdict.{Verdict}
 use Rattle.certificate_model.specs.declared.verdict.Verdict.TheVariants.{Accepted, Rejected}
 use Rattle.certificate_model.specs.declared.verdict.Why.{Why}
@@ -24,7 +23,7 @@ use Rattle.certificate_model.proofs.VerdictLaws.{accepted_is, accepted_is_safe, 
 use Rattle.solve_core.specs.Solved.{solve_faults}
 use Rattle.solve_core.specs.declared.fault.SolveFault.{SolveFault}
 use Rattle.signal_cli.specs.Accepted.{Shows}
-use Rattle.signal_cli.specs.Answers.{◌>>=◌, Follows, IsJudged, content_in, found, network, network_as, network_from, network_in, plan, plan_from, plan_in, planned_as, searchable, searchable_as, searchable_in, sized, sized_as, sized_in, sized_planned_in, with_certificate, with_plan}
+use Rattle.signal_cli.specs.Answers.{◌>>=◌, IsJudged, found, network, network_as, network_from, network_in, plan, plan_from, plan_in, planned_as, searchable, searchable_as, searchable_in, sized, sized_as, sized_in, sized_planned_in, with_plan}
 use Rattle.signal_cli.specs.Bounds.{IsSafe}
 use Rattle.signal_cli.specs.Faults.{reply_status}
 use Rattle.signal_cli.specs.declared.fault.Fault.{Fault}
@@ -136,22 +135,6 @@ both_read files network plan planned is = by_named (sized_in files network) refl
     by_named : (made : Result Named Fault) → sized_in files network ≡ made → with_plan made files plan ≡ Ok planned → (sized_in files network ≡ Ok planned.named) × (plan_in planned.named files plan ≡ Ok planned.plan)
     by_named (Err fault) found is = absurd (cc)
     by_named (Ok named) found is = by_plan named found (plan_in named files plan) refl is
-
--- what was read where a reply is due
-pub record IsRead {X : Type 0} (made : Result X Fault) (files : Files) (certificate : List ℕ) (IsDue : X × Content → Reply → Type 0) (reply : Reply) : Type 0 where
-  pub first : X
-  pub made_is : made ≡ Ok first
-  pub content : Content
-  pub content_is : content_in files certificate MAX_CERTIFICATE_BYTES ≡ Ok content
-  pub due : IsDue (first, content) reply
-
-pub is_read : {X : Type 0} (made : Result X Fault) (files : Files) (certificate : List ℕ) (IsDue : X × Content → Reply → Type 0) (reply : Reply) → Follows (with_certificate made files certificate) IsDue (Ok reply) → IsRead made files certificate IsDue reply
-is_read (Err fault) files certificate IsDue reply is = absurd (cc)
-is_read {X} (Ok x) files certificate IsDue reply is = by_content (content_in files certificate MAX_CERTIFICATE_BYTES) refl is
-  where
-    by_content : (seen : Result Content Fault) → content_in files certificate MAX_CERTIFICATE_BYTES ≡ seen → (let both : Result (X × Content) Fault = seen >>= (λ content. Ok (x, content)) in Follows both IsDue (Ok reply)) → (let made : Result X Fault = Ok x in IsRead made files certificate IsDue reply)
-    by_content (Err fault) seen is = absurd (cc)
-    by_content (Ok content) seen is = record { first = x; made_is = refl; content = content; content_is = seen; due = is }
 
 -- a certificate whose bound was accepted
 pub record WasAccepted (net : Net) (answer : Verdict → Reply) (content : Content) (reply : Reply) : Type 0 where

@@ -1,4 +1,4 @@
--- That a run of `check`, `gap` or `solve` which keeps its promise is sound, and one of `check` or `gap` exact.
+-- That a run of `check`, `gap`, `solve` or `point` which keeps its promise is sound, and one of `check`, `gap` or `point` exact.
 use Rattle.std.proofs.Common.{◌≡◌, ℕ, ◌≤◌, ◌⊎◌, inl, inr, true, List, ◌++◌, Option, Some, None, Result, Ok, Err, IfSome, refl, ap, sym, subst, ◌∙◌, arith}
 use Rattle.std.specs.Prelude.{ℤ}
 use Rattle.shelf_io.specs.Told.{Files, with_taken}
@@ -8,6 +8,7 @@ use Rattle.named_net.specs.Naming.{Named}
 use Rattle.cell_build.proofs.SpelledLaws.{spelled_is_named}
 use Rattle.plan_file.specs.Spelled.{spelled_plan}
 use Rattle.plan_file.proofs.ReadLaws.{read_is_admissible}
+use Rattle.certificate_model.specs.declared.constants.TheConstants.{MAX_CERTIFICATE_BYTES}
 use Rattle.certificate_model.specs.declared.verdict.Verdict.{Verdict}
 use Rattle.certificate_model.specs.declared.verdict.Verdict.TheVariants.{Accepted, Rejected}
 use Rattle.certificate_model.specs.declared.verdict.Why.{Why}
@@ -15,7 +16,7 @@ use Rattle.signal_cli.specs.Accepted.{CanBeJudged, Decides, HoldsBoth, IsExact, 
 use Rattle.signal_cli.specs.Answers.{◌>>=◌, CheckGives, Follows, GapGives, IsJudged, check_reply, gap_reply, network_in, sized_in, sized_planned_in, with_certificate}
 use Rattle.signal_cli.specs.BoundLines.{accepted_lines, gap_lines}
 use Rattle.signal_cli.specs.Bounds.{IsGap, IsSafe, delay_under}
-use Rattle.signal_cli.specs.Commands.{Check, Command, Encode, Gap, Program, Replay, Solve, Trace, are_names, inputs_of, outputs_of}
+use Rattle.signal_cli.specs.Commands.{Check, Command, Encode, Gap, Point, Program, Replay, Solve, Trace, are_names, inputs_of, outputs_of}
 use Rattle.signal_cli.specs.Faults.{outcome_status, reply_status}
 use Rattle.signal_cli.specs.Promises.{Keeps}
 use Rattle.signal_cli.specs.Sound.{IsSound}
@@ -24,8 +25,9 @@ use Rattle.signal_cli.specs.declared.fault.Fault.{Fault}
 use Rattle.signal_cli.specs.declared.input.Content.{Content}
 use Rattle.signal_cli.specs.declared.input.Planned.{Planned}
 use Rattle.signal_cli.specs.declared.reply.Reply.{Reply}
-use Rattle.signal_cli.proofs.BoundLaws.{IsRead, accepted_shows, both_read, is_read, network_spelled, network_valid, plan_spelled, safe_for, sized_network, was_accepted, was_rejected}
-use Rattle.signal_cli.proofs.KeptPromises.{small_status}
+use Rattle.signal_cli.proofs.BoundLaws.{accepted_shows, both_read, network_spelled, network_valid, plan_spelled, safe_for, sized_network, was_accepted, was_rejected}
+use Rattle.signal_cli.proofs.Followed.{IsRead, is_read, reply_is_due}
+use Rattle.signal_cli.proofs.PointPromises.{decides_point, decides_point_at_8, puts_decoded}
 use Rattle.signal_cli.proofs.Reading.{for_files}
 use Rattle.signal_cli.proofs.SearchPromises.{names_differ, puts_plan, solved_for}
 
@@ -63,7 +65,7 @@ record Checked (network : List ℕ) (files : Files) (reply : Reply) : Type 0 whe
 
 checked : (network certificate : List ℕ) (files : Files) (reply : Reply) → CheckGives network certificate files (Ok reply) → reply_status reply ≡ 0 → Checked network files reply
 checked network certificate files reply gives zero =
-    let read = is_read (sized_in files network) files certificate IsChecked reply gives in
+    let read = is_read MAX_CERTIFICATE_BYTES (sized_in files network) files certificate IsChecked reply gives in
     let was = was_accepted read.first.net check_reply check_rejects read.content reply read.due zero in
     record {
       bound = was.bound;
@@ -81,7 +83,7 @@ record Compared (network plan : List ℕ) (files : Files) (reply : Reply) : Type
 compared : (network plan certificate : List ℕ) (files : Files) (reply : Reply) → GapGives network plan certificate files (Ok reply) → reply_status reply ≡ 0 → Compared network plan files reply
 unfolding safe_for
 compared network plan certificate files reply gives zero =
-    let read = is_read (sized_planned_in files network plan) files certificate IsCompared reply gives in
+    let read = is_read MAX_CERTIFICATE_BYTES (sized_planned_in files network plan) files certificate IsCompared reply gives in
     let planned : Planned = read.first in
     let both = both_read files network plan planned read.made_is in
     let was = was_accepted planned.named.net (gap_reply planned) (gap_rejects planned) read.content reply read.due zero in
@@ -101,18 +103,6 @@ compared network plan certificate files reply gives zero =
       };
     }
 
--- a reply is due where the files can be judged
-is_judged : {X : Type 0} (first : Result X Fault) (files : Files) (certificate : List ℕ) (IsDue : X × Content → Reply → Type 0) (outcome : Result Reply Fault) → CanBeJudged first files certificate → Follows (with_certificate first files certificate) IsDue outcome → outcome_status outcome ≤ 1
-is_judged {X} first files certificate IsDue outcome judged follows =
-    let P : Result (X × Content) Fault → Type 0 = λ read. Follows read IsDue outcome in
-    let read : with_certificate first files certificate ≡ Ok (judged.made, judged.content) =
-    ap (λ (first : Result X Fault). with_certificate first files certificate) judged.made_is ∙ ap (λ (seen : Result Content Fault). seen >>= (λ content. Ok (judged.made, content))) judged.content_is in
-    by_outcome judged.made judged.content outcome (subst P read follows)
-  where
-    by_outcome : (x : X) (content : Content) (outcome : Result Reply Fault) → (let read : Result (X × Content) Fault = Ok (x, content) in Follows read IsDue outcome) → outcome_status outcome ≤ 1
-    by_outcome x content (Ok reply) due = small_status reply
-    by_outcome x content (Err fault) due = absurd due
-
 module _ (before after : World) where
   -- a bound that was put is safe
   puts_bound : (told : Option Files) (network : List ℕ) (reply : Reply) → after.out ≡ with_taken before.out reply.lines → ForFiles told (λ files. Checked network files reply) → (bound : ℤ) × (after.out ≡ with_taken before.out (accepted_lines bound)) × ForFiles told (IsSafe network bound)
@@ -130,7 +120,7 @@ module _ (before after : World) where
     IsDue read reply = IsJudged (named_of read.0).net (answer read.0) read.1 reply
 
     -- what the two files hold
-    abbrev both_held : (files : Files) (reply : Reply) → IsRead (made files) files certificate IsDue reply → HoldsBoth files network certificate
+    abbrev both_held : (files : Files) (reply : Reply) → IsRead MAX_CERTIFICATE_BYTES (made files) files certificate IsDue reply → HoldsBoth files network certificate
     both_held files reply read = record { named = named_of read.first; network_is = of_file files read.first read.made_is; content = read.content; content_is = read.content_is }
 
     decided : (told : Option Files) (status : ℕ) → (status ≤ 1 → (reply : Reply) × ForFiles told (λ files. Follows (with_certificate (made files) files certificate) IsDue (Ok reply)) × (reply_status reply ≡ status) × (after.out ≡ with_taken before.out reply.lines)) → (NoneFailed before after → IfSome told (λ files. (status ≡ 8) ⊎ ((outcome : Result Reply Fault) × Follows (with_certificate (made files) files certificate) IsDue outcome × (outcome_status outcome ≡ status)))) → IfSome told (λ files. Decides (made files) files network certificate before after Puts status)
@@ -138,16 +128,16 @@ module _ (before after : World) where
     decided (Some files) status answered explained = record {
       accepted = λ zero.
           let given = answered (omega (arith, zero)) in
-          let read : IsRead (made files) files certificate IsDue given.0 = is_read (made files) files certificate IsDue given.0 given.1 in
+          let read : IsRead MAX_CERTIFICATE_BYTES (made files) files certificate IsDue given.0 = is_read MAX_CERTIFICATE_BYTES (made files) files certificate IsDue given.0 given.1 in
           let was = was_accepted (named_of read.first).net (answer read.first) (rejects read.first) read.content given.0 read.due (given.2 ∙ zero) in
           (was.bound, both_held files given.0 read, puts read.first was.bound given.0 was.answered given.3, accepted_shows (named_of read.first).net (answer read.first) read.content given.0 was);
       rejected = λ one.
           let given = answered (omega (arith, one)) in
-          let read : IsRead (made files) files certificate IsDue given.0 = is_read (made files) files certificate IsDue given.0 given.1 in
+          let read : IsRead MAX_CERTIFICATE_BYTES (made files) files certificate IsDue given.0 = is_read MAX_CERTIFICATE_BYTES (made files) files certificate IsDue given.0 given.1 in
           (both_held files given.0 read, was_rejected (named_of read.first).net (answer read.first) (accepts read.first) read.content given.0 (network_valid files network (named_of read.first) (of_file files read.first read.made_is)) read.due (given.2 ∙ one));
       complete = λ none judged. elim (explained none) [
         | inl eight ↦ inr eight
-        | inr deserved ↦ inl (rw (← deserved.2) (is_judged (made files) files certificate IsDue deserved.0 judged deserved.1))
+        | inr deserved ↦ inl (rw (← deserved.2) (reply_is_due MAX_CERTIFICATE_BYTES (made files) files certificate IsDue deserved.0 judged.made judged.content judged.made_is judged.content_is deserved.1))
       ];
     }
 
@@ -164,6 +154,9 @@ is_sound (Replay network plan) before after status names keeps = tt
 is_sound (Trace network plan table) before after status names keeps = tt
 is_sound (Program network text) before after status names keeps = tt
 is_sound (Encode network plan text) before after status names keeps = tt
+is_sound (Point network point) before after status names keeps = λ zero.
+    let answered = keeps.answered (omega (arith, zero)) in
+    puts_decoded before after network point answered.reply answered.put (answered.is ∙ zero) answered.deserved
 is_sound (Check network certificate) before after status names keeps = λ zero.
     let answered = keeps.answered (omega (arith, zero)) in
     let done = puts_bound before after before.shelf.files network answered.reply answered.put
@@ -187,6 +180,9 @@ is_exact (Some (Trace network plan table)) before after status keeps = tt
 is_exact (Some (Program network text)) before after status keeps = tt
 is_exact (Some (Encode network plan text)) before after status keeps = tt
 is_exact (Some (Solve network budget plan certificate)) before after status keeps = tt
+is_exact (Some (Point network point)) before after status keeps =
+    decides_point before after before.shelf.files network point status
+    (λ small. let answered = keeps.answered small in (answered.reply, answered.deserved, answered.is)) keeps.complete
 is_exact (Some (Check network certificate)) before after status keeps =
     decided before after (λ files. sized_in files network) (λ (named : Named). named) (λ (named : Named). check_reply) network certificate (sized_of network) (λ (named : Named). check_rejects) (λ (named : Named). check_accepts) (PutsAccepted before after)
     (λ named bound reply is put. put ∙ ap (λ (reply : Reply). with_taken before.out reply.lines) is) before.shelf.files status
@@ -203,6 +199,7 @@ sound_at_8 (Some (Replay network plan)) before after = tt
 sound_at_8 (Some (Trace network plan table)) before after = tt
 sound_at_8 (Some (Program network text)) before after = tt
 sound_at_8 (Some (Encode network plan text)) before after = tt
+sound_at_8 (Some (Point network point)) before after = λ zero. absurd (omega (arith, zero))
 sound_at_8 (Some (Check network certificate)) before after = λ zero. absurd (omega (arith, zero))
 sound_at_8 (Some (Gap network plan certificate)) before after = λ zero. absurd (omega (arith, zero))
 sound_at_8 (Some (Solve network budget plan certificate)) before after = λ zero. absurd (omega (arith, zero))
@@ -222,5 +219,6 @@ exact_at_8 (Some (Trace network plan table)) before after = tt
 exact_at_8 (Some (Program network text)) before after = tt
 exact_at_8 (Some (Encode network plan text)) before after = tt
 exact_at_8 (Some (Solve network budget plan certificate)) before after = tt
+exact_at_8 (Some (Point network point)) before after = decides_point_at_8 before after before.shelf.files network point
 exact_at_8 (Some (Check network certificate)) before after = decided_at_8 before.shelf.files (λ files. sized_in files network) network certificate before after (PutsAccepted before after)
 exact_at_8 (Some (Gap network plan certificate)) before after = decided_at_8 before.shelf.files (λ files. sized_planned_in files network plan) network certificate before after (PutsCompared before after)

@@ -2,6 +2,7 @@
 use Rattle.std.proofs.Common.{◌≡◌, refl}
 use Rattle.limits.specs.declared.TheConstants.{MAX_FILE_BYTES, MAX_NAME_BYTES, GREEN_DIGITS, MAX_STEPS, MAX_LINKS, MAX_CELLS, MAX_SIGNALS, MIN_PHASES, MAX_PHASES, MAX_NAMED_PHASES, MAX_GREEN, MAX_CLEAR, MAX_CAPACITY, MAX_STORAGE, MAX_WAVE, MAX_DEMAND, MIN_BRANCHES, MAX_BRANCHES, MAX_PARCEL}
 use Rattle.sparse_program.specs.declared.limits.TheConstants.{MAX_ROWS}
+use Rattle.program_text.specs.declared.constants.TheConstants.{MAX_POINT_BYTES}
 use Rattle.certificate_model.specs.declared.constants.TheConstants.{MAX_CERTIFICATE_BYTES, MAX_PRICE}
 
 pub max_file_bytes : MAX_FILE_BYTES ≡ 1048576
@@ -63,6 +64,9 @@ max_parcel = refl
 
 pub max_rows : MAX_ROWS ≡ 400000
 max_rows = refl
+
+pub max_point_bytes : MAX_POINT_BYTES ≡ 16777216
+max_point_bytes = refl
 
 pub max_certificate_bytes : MAX_CERTIFICATE_BYTES ≡ 134217728
 max_certificate_bytes = refl

@@ -1,10 +1,12 @@
 pub mod BoundLaws
 pub mod BoundPromises
 pub mod FileLists
+pub mod Followed
 pub mod KeptPromises
 pub mod KnownLimits
 pub mod NamedOutputs
 pub mod Pieces
+pub mod PointPromises
 pub mod Reading
 pub mod SearchPromises
 pub mod TraceCells

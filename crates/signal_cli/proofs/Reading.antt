@@ -11,8 +11,7 @@ use Rattle.shelf_io.specs.Told.{Files, IfTold, IsMissing, FailsToRead, ShelfStat
 use Rattle.shelf_io.proofs.Growing.{get_same}
 use Rattle.shelf_io.proofs.NamedFiles.{get_inserted}
 use Rattle.limits.specs.declared.TheConstants.{MAX_FILE_BYTES}
-use Rattle.certificate_model.specs.declared.constants.TheConstants.{MAX_CERTIFICATE_BYTES}
-use Rattle.signal_cli.specs.Answers.{◌>>=◌, Follows, content_in, content_of, found, network_from, network_in, plan_from, plan_in, sized, sized_in, sized_planned_in, with_certificate, with_plan}
+use Rattle.signal_cli.specs.Answers.{◌>>=◌, Follows, content_in, content_of, found, network_from, network_in, plan_from, plan_in, sized, sized_in, sized_planned_in, with_content, with_plan}
 use Rattle.shelf_io.specs.Front.{EndsReading}
 use Rattle.shelf_io.specs.declared.whole_file.ReadAll.{ReadAll}
 use Rattle.shelf_io.specs.declared.whole_file.ReadAll.TheVariants as ended
@@ -234,25 +233,25 @@ planned_beside g network beside plan differ y there other is = by_found (g there
 pub sized_planned_beside : (network plan : List ℕ) → bytes_eq network plan ≡ false → Beside (λ files. sized_planned_in files network plan) (λ apart. apart_from network apart × apart_from plan apart)
 sized_planned_beside network plan differ = planned_beside (λ files. sized_in files network) network (sized_beside network) plan differ
 
--- Certificates.
+-- A second file of any kind.
 
--- what was read first, and a certificate
-abbrev certified : {X : Type 0} → X → Content → Result (X × Content) Fault
-certified x content = Ok (x, content)
+-- what was read first, and what a file holds
+abbrev beside_content : {X : Type 0} → X → Content → Result (X × Content) Fault
+beside_content x content = Ok (x, content)
 
--- the certificate behind what was found first
-behind_certificate : {X : Type 0} (x : X) (certificate : List ℕ) (outcome : Result Content Fault) (before after : ShelfState) → Finds (λ files made. content_in files certificate MAX_CERTIFICATE_BYTES ≡ made) outcome before after → Finds (λ files made. with_certificate (Ok x) files certificate ≡ made) (outcome >>= certified x) before after
-behind_certificate x certificate (Ok content) before after second =
-    found_then (λ files. content_in files certificate MAX_CERTIFICATE_BYTES) (certified x) content (Ok (x, content)) before after second refl
-behind_certificate x certificate (Err fault) before after second =
-    found_fault (λ files. content_in files certificate MAX_CERTIFICATE_BYTES) (λ _. certified x) fault before after second
+-- the file behind what was found first
+behind_first : {X : Type 0} (limit : ℕ) (x : X) (name : List ℕ) (outcome : Result Content Fault) (before after : ShelfState) → Finds (λ files made. content_in files name limit ≡ made) outcome before after → Finds (λ files made. with_content limit (Ok x) files name ≡ made) (outcome >>= beside_content x) before after
+behind_first limit x name (Ok content) before after second =
+    found_then (λ files. content_in files name limit) (beside_content x) content (Ok (x, content)) before after second refl
+behind_first limit x name (Err fault) before after second =
+    found_fault (λ files. content_in files name limit) (λ _. beside_content x) fault before after second
 
--- what g finds by files of its own, and a certificate in another
-pub certificate_found : {X : Type 0} (g : Files → Result X Fault) (Apart : List ℕ → Type 0) → Beside g Apart → (certificate : List ℕ) → Apart certificate → (x : X) (outcome : Result Content Fault) (before middle after : ShelfState) → Finds (λ files made. g files ≡ made) (Ok x) before middle → Finds (λ files made. content_in files certificate MAX_CERTIFICATE_BYTES ≡ made) outcome middle after → Finds (λ files made. with_certificate (g files) files certificate ≡ made) (outcome >>= certified x) before after
-certificate_found {X} g Apart beside certificate differ x outcome before middle after first second =
-    found_next g Apart beside x (λ files (x : X). with_certificate (Ok x) files certificate) certificate differ
-    (λ a b same. ap (λ (seen : Option (List ℕ)). found MAX_CERTIFICATE_BYTES seen >>= certified x) same)
-    (outcome >>= certified x) before middle after first (behind_certificate x certificate outcome middle after second)
+-- what g finds by files of its own, and what another holds
+pub content_found : {X : Type 0} (limit : ℕ) (g : Files → Result X Fault) (Apart : List ℕ → Type 0) → Beside g Apart → (name : List ℕ) → Apart name → (x : X) (outcome : Result Content Fault) (before middle after : ShelfState) → Finds (λ files made. g files ≡ made) (Ok x) before middle → Finds (λ files made. content_in files name limit ≡ made) outcome middle after → Finds (λ files made. with_content limit (g files) files name ≡ made) (outcome >>= beside_content x) before after
+content_found {X} limit g Apart beside name differ x outcome before middle after first second =
+    found_next g Apart beside x (λ files (x : X). with_content limit (Ok x) files name) name differ
+    (λ a b same. ap (λ (seen : Option (List ℕ)). found limit seen >>= beside_content x) same)
+    (outcome >>= beside_content x) before middle after first (behind_first limit x name outcome middle after second)
 
 -- What is due to what was read.
 

@@ -28,7 +28,7 @@ use Rattle.program_text.specs.PointText.{point_text, spelled_point}
 use Rattle.program_text.specs.ProgramText.{program_text}
 use Rattle.program_text.specs.declared.fault.PointFault.{PointFault}
 use Rattle.program_text.specs.declared.fault.PointFault.TheVariants as unread
-use Rattle.program_text.specs.declared.limits.TheConstants.{MAX_POINT_BYTES}
+use Rattle.program_text.specs.declared.constants.TheConstants.{MAX_POINT_BYTES}
 use Rattle.point_decode.specs.Decoded.{decoded}
 use Rattle.point_decode.specs.declared.broken.Broken.{Broken}
 use Rattle.point_decode.specs.declared.broken.Broken.TheVariants as broken

@@ -10,7 +10,7 @@ use Rattle.plan_file.specs.Spelled.{spelled_plan}
 use Rattle.program_model.specs.Points.{IsIntegerPoint, program_of}
 use Rattle.point_model.specs.PlansOfPoints.{IsPlanOf}
 use Rattle.program_text.specs.PointText.{SpellsPoint}
-use Rattle.program_text.specs.declared.limits.TheConstants.{MAX_POINT_BYTES}
+use Rattle.program_text.specs.declared.constants.TheConstants.{MAX_POINT_BYTES}
 use Rattle.signal_cli.specs.Answers.{content_in, sized_in}
 use Rattle.signal_cli.specs.Bounds.{delay_under}
 use Rattle.signal_cli.specs.PointLines.{decoded_lines}

@@ -6,6 +6,7 @@ mod examples;
 mod networks;
 mod plan_texts;
 mod plans;
+mod points;
 mod programs;
 mod runs;
 mod searches;
