@@ -24,11 +24,12 @@ use Rattle.point_decode.specs.declared.broken.Broken.TheVariants as broken
 use Rattle.point_decode.specs.declared.decoding.Decoded.{Decoded}
 use Rattle.point_decode.proofs.BreakLaws.{point_is_unbroken, unbroken_is_point}
 use Rattle.point_decode.proofs.ShownLaws.{plan_is_shown, point_has_bits}
+use Rattle.signal_cli.specs.Accepted.{CanBeDecoded, DecidesPoint, HoldsPoint}
 use Rattle.signal_cli.specs.Answers.{Follows, IsBrokenReply, IsPlanReply, IsPointReply, IsTextReply, IsValuesReply, PointGives, content_in, content_of, found, sized_in}
 use Rattle.signal_cli.specs.Bounds.{delay_under}
 use Rattle.signal_cli.specs.Faults.{outcome_status, reply_status}
 use Rattle.signal_cli.specs.PointLines.{decoded_lines}
-use Rattle.signal_cli.specs.Points.{CanBeDecoded, DecidesPoint, HoldsPoint, IsDecoded, IsOnlyPlanOf, IsPointText, PutsDecoded}
+use Rattle.signal_cli.specs.Points.{IsDecoded, IsOnlyPlanOf, IsPointText, PutsDecoded}
 use Rattle.signal_cli.specs.Worlds.{ForFiles, NoneFailed, World}
 use Rattle.signal_cli.specs.declared.fault.Fault.{Fault}
 use Rattle.signal_cli.specs.declared.input.Content.{Content}

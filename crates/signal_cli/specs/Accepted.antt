@@ -5,12 +5,13 @@ use Rattle.std.specs.Prelude.{◌≡◌, ℕ, ◌≤◌, ◌⊎◌, ℤ, List, O
 use Rattle.shelf_io.specs.Told.{Files, with_taken}
 use Rattle.ct_base.specs.declared.net.Net.{Net}
 use Rattle.named_net.specs.Naming.{Named}
+use Rattle.program_text.specs.declared.constants.TheConstants.{MAX_POINT_BYTES}
 use Rattle.certificate_model.specs.Verdicts.{Accepts}
 use Rattle.certificate_model.specs.declared.constants.TheConstants.{MAX_CERTIFICATE_BYTES}
 use Rattle.signal_cli.specs.Answers.{content_in, network_in, sized_in, sized_planned_in}
 use Rattle.signal_cli.specs.BoundLines.{accepted_lines, gap_lines}
 use Rattle.signal_cli.specs.Commands.{Check, Command, Gap, Point}
-use Rattle.signal_cli.specs.Points.{DecidesPoint}
+use Rattle.signal_cli.specs.Points.{IsPointText}
 use Rattle.signal_cli.specs.Worlds.{NoneFailed, World}
 use Rattle.signal_cli.specs.declared.fault.Fault.{Fault}
 use Rattle.signal_cli.specs.declared.input.Content.{Content}
@@ -49,6 +50,25 @@ PutsAccepted before after bound = after.out ≡ with_taken before.out (accepted_
 -- the lines of some delay with a bound were put
 abbrev pub PutsCompared : World → World → ℤ → Type 0
 PutsCompared before after bound = (delay : ℕ) × (after.out ≡ with_taken before.out (gap_lines delay bound))
+
+-- a file of at most so many bytes holds the text of an integer point
+abbrev pub HoldsPoint : Net → Content → Type 0
+HoldsPoint net TooLong = ⊥
+HoldsPoint net (Whole text) = IsPointText net text
+
+-- what the two files hold: a network whose program is not too large, and a text of at most so many bytes, or a longer one
+pub record CanBeDecoded (files : Files) (network point : List ℕ) : Type 0 where
+  pub named : Named
+  pub network_is : sized_in files network ≡ Ok named
+  pub content : Content
+  pub content_is : content_in files point MAX_POINT_BYTES ≡ Ok content
+
+-- status 0 comes only where the text is that of an integer point, and status 1 only where it is not; and no other status comes than
+-- these two and that of want of memory, where both files can be judged and no call on files or output failed
+pub record DecidesPoint (files : Files) (network point : List ℕ) (before after : World) (status : ℕ) : Type 0 where
+  pub decoded : status ≡ 0 → (both : CanBeDecoded files network point) × HoldsPoint both.named.net both.content
+  pub refused : status ≡ 1 → (both : CanBeDecoded files network point) × ¬ HoldsPoint both.named.net both.content
+  pub complete : NoneFailed before after → CanBeDecoded files network point → (status ≤ 1) ⊎ (status ≡ 8)
 
 -- what `check`, `gap` and `point` decide where files are told
 abbrev pub IsExact : Option Command → World → World → ℕ → Type 0
