@@ -14,6 +14,7 @@ import sys
 import typing
 
 import compile
+import inputs
 import judge
 import replay
 
@@ -285,7 +286,8 @@ def answer_of_gap(network, plan, certificate):
 def main():
     if len(sys.argv) not in (3, 4):
         sys.exit('usage: tools/check_certificate.py NET [PLAN] CERT')
-    files = [open(name, 'rb').read() for name in sys.argv[1:]]
+    inputs.end_with_reader()
+    files = [inputs.bytes_of(name) for name in sys.argv[1:]]
     status, printed = answer_of_check(*files) if len(files) == 2 else answer_of_gap(*files)
     print(printed, end='')
     sys.exit(status)

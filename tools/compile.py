@@ -17,6 +17,7 @@ import re
 import sys
 import typing
 
+import inputs
 import judge
 import replay
 
@@ -557,7 +558,8 @@ def answer_of_point(network, data):
 def main():
     if len(sys.argv) not in (2, 3):
         sys.exit('usage: tools/compile.py NET [PLAN]')
-    files = [open(name, 'rb').read() for name in sys.argv[1:]]
+    inputs.end_with_reader()
+    files = [inputs.bytes_of(name, judge.LONGEST + 1) for name in sys.argv[1:]]
     status, printed, text = answer_of_program(*files) if len(files) == 1 else answer_of_encode(*files)
     print(printed if text is None else text, end='')
     sys.exit(status)

@@ -7,10 +7,12 @@ import re
 import sys
 import typing
 
+import inputs
 import judge
 import network_sentences
 import plan_sentences
 import trace_table
+from inputs import tool_name
 from named_network import NamedNetwork, Remark, told
 
 SCALE = re.compile(r'unit is a (tenth of a |hundredth of a |)vehicle, a step ([0-9]+(?:\.[0-9]+)?) seconds?', re.I)
@@ -34,26 +36,19 @@ def refusal(text):
     return 2
 
 
-def tool_name():
-    return sys.argv[0].rsplit('/', 1)[-1]
-
-
 def words(usage, least, most=None):
     """The words of the call, or the end of the tool where they are of another form."""
     given = sys.argv[1:]
     if len(given) < least or (most is not None and len(given) > most) or any(word.startswith('-') for word in given):
-        print('usage: tools/%s %s' % (tool_name(), usage), file=sys.stderr)
+        print('usage: tools/%s %s   (docs/desk.md says more)' % (tool_name(), usage), file=sys.stderr)
         sys.exit(2)
+    inputs.end_with_reader()
     return given
 
 
 def bytes_of(name):
     """The bytes of a file, at most one more than a network or a plan may have."""
-    try:
-        with open(name, 'rb') as file:
-            return file.read(judge.LONGEST + 1)
-    except OSError as fault:
-        stop(name, Remark(None, (fault.strerror or 'it cannot be read').lower()))
+    return inputs.bytes_of(name, judge.LONGEST + 1)
 
 
 def network_of(name):

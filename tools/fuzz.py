@@ -888,7 +888,7 @@ def point_faults(program, values, network, plan):
 
 
 def main():
-    if len(sys.argv) not in (3, 4):
+    if len(sys.argv) not in (3, 4) or not sys.argv[2].isdecimal():
         sys.exit('usage: tools/fuzz.py SEED COUNT [PROGRAM]')
     seed, count = sys.argv[1], int(sys.argv[2])
     program = pathlib.Path(sys.argv[3]).resolve() if len(sys.argv) > 3 else PROGRAM

@@ -16,6 +16,8 @@ import sys
 import tomllib
 import typing
 
+import inputs
+
 LONGEST = 1_048_576
 NAME = re.compile(r'[a-z][a-z0-9_]{0,23}')
 GREEN = re.compile(rb'0|[1-9][0-9]{0,3}')
@@ -357,9 +359,10 @@ def judge(network, plan=None):
 
 
 def main():
-    network = open(sys.argv[1], 'rb').read()
-    plan = open(sys.argv[2], 'rb').read() if len(sys.argv) > 2 else None
-    status, line = judge(network, plan) or (0, 'accepted')
+    if len(sys.argv) not in (2, 3):
+        sys.exit('usage: tools/judge.py NET [PLAN]')
+    inputs.end_with_reader()
+    status, line = judge(*[inputs.bytes_of(name, LONGEST + 1) for name in sys.argv[1:]]) or (0, 'accepted')
     print(line)
     sys.exit(status)
 

@@ -8,33 +8,29 @@ import re
 import sys
 
 import compile
+import inputs
 import judge
 
 WIDEST = 200  # bytes of a line, below what any of the readers takes
 TOLERANCE = 0.001  # a value that is farther from a whole number is none
 
 
-def read(name):
-    with open(name, 'rb') as file:
-        return file.read()
-
-
 def program_of(program_file, net_file=None):
     """The program of a text, with the names of a network where one is given."""
-    text = read(program_file).decode()
     try:
+        text = inputs.bytes_of(program_file).decode()
         program = compile.read_program(text)
     except (ValueError, StopIteration, TypeError):
         sys.exit('%s is no text of a program' % program_file)
     if net_file is None:
         return program
-    status, printed, own = compile.answer_of_program(read(net_file))
+    status, printed, own = compile.answer_of_program(inputs.bytes_of(net_file))
     if own is None:
         print(printed, end='', file=sys.stderr)
         sys.exit(status)
     if own != text:
         sys.exit('%s is not the program of %s' % (program_file, net_file))
-    return compile.program_of(judge.judge_network(read(net_file)))
+    return compile.program_of(judge.judge_network(inputs.bytes_of(net_file)))
 
 
 def names_of(items):

@@ -4,11 +4,13 @@
 usage: tools/replay.py NET [PLAN] [--trace]   (Python 3.11, for tomllib)
 
 With --trace it prints the table that the program's `trace` writes, in place of the two lines: a header, and one line for
-each step and cell. It is for accepted files: it refuses nothing (tools/judge.py says what is refused). It serves every key
-of the model.
+each step and cell. What it computes is for accepted files; as a tool it refuses others with a sentence, as the tools of the desk do.
+It serves every key of the model.
 """
 import sys
-import tomllib
+
+import desk
+from named_network import Remark
 
 
 def cells_of(net):
@@ -106,11 +108,14 @@ def trace(net, plan):
 
 
 def main():
-    files = [word for word in sys.argv[1:] if word != '--trace']
-    with open(files[0], 'rb') as file:
-        net = tomllib.load(file)
-    plan = open(files[1]).read() if len(files) > 1 else None
-    if '--trace' in sys.argv:
+    is_trace = '--trace' in sys.argv
+    sys.argv = [word for word in sys.argv if word != '--trace']
+    name, *plans = desk.words('NET [PLAN] [--trace]', 1, 2)
+    network = desk.network_of(name)
+    net, plan = network.net, desk.plan_of(network, plans[0]) if plans else None
+    if plan is None and net.get('signal'):
+        desk.stop(name, Remark(None, 'the network has signals, so a plan has to be named behind it'))
+    if is_trace:
         print(trace(net, plan), end='')
     else:
         print('delay %d\nleft %d' % replay(net, plan))

@@ -208,7 +208,11 @@ def sentences(program, status, words):
 def main():
     if len(sys.argv) < 3 or not sys.argv[2].isdecimal():
         sys.exit('usage: tools/sentences.py PROGRAM STATUS WORDS..')
-    for line in sentences(sys.argv[1], int(sys.argv[2]), sys.argv[3:]):
+    try:
+        lines = sentences(sys.argv[1], int(sys.argv[2]), sys.argv[3:])
+    except OSError:  # a file is no longer what it was when the program ran
+        lines = []
+    for line in lines:
         sys.stdout.buffer.write(('planner: %s\n' % line).encode(errors='backslashreplace'))
 
 

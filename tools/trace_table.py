@@ -1,7 +1,7 @@
 """Reads the table that `trace` wrote (docs/traffic.md, "The trace")."""
-import pathlib
 import re
 
+LONGEST = 2 ** 24  # bytes, more than a table of as many cells and steps as there may be
 HEADER = 'step,link,cell,units,out,delay'
 NUMBER = '(?:0|[1-9][0-9]{0,8})'
 ROW = re.compile('({0}),([a-z][a-z0-9_]{{0,23}}),(q|{0}),({0}),({0}),({0})'.format(NUMBER))
@@ -14,7 +14,8 @@ class NoTable(Exception):
 def rows_of(path):
     """The rows (step, link, cell, units, out, delay) of a file."""
     try:
-        lines = pathlib.Path(path).read_bytes().decode('ascii', 'replace').split('\n')
+        with open(path, 'rb') as file:
+            lines = file.read(LONGEST).decode('ascii', 'replace').split('\n')
     except OSError:
         raise NoTable('it is not there or cannot be read') from None
     if lines[0] != HEADER:
