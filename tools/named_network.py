@@ -3,11 +3,15 @@
 What is wrong with a file, or of note in it, is said as a `Remark`: a line of the file and a sentence about it.
 """
 import difflib
+import re
 import tomllib
 import typing
 
 import toml_places
 
+KINDS = [(rb'\Actm-plan ', 'a plan'), (rb'\Actm-cert ', 'a certificate'), (rb'\Astep,link,', 'the table of a trace'),
+         (rb'\A *format *=|^ *\[\[ *link *\]\]', 'a network'), (rb'^ *\[? *street *\.', 'a file of streets'),
+         (rb'^ *(offset|splits) *=', 'a file of cycles')]
 SHOWN = 48  # so many characters of a value are shown
 LIKE = 0.7  # how alike two names are, from 0 to 1, where one may be meant for the other
 
@@ -53,11 +57,11 @@ def meant(name, names):
 
 
 def other_kind(data):
-    """What a file is that begins like none of the kind that is wanted, or nothing."""
-    for front, kind in [(b'ctm-plan ', 'a plan'), (b'ctm-cert ', 'a certificate'), (b'step,link,', 'the table of a trace')]:
-        if data.startswith(front):
+    """What a file is that is none of the kind that is wanted, by how it begins or by its headers; or nothing."""
+    for front, kind in KINDS:
+        if re.search(front, data, re.M):
             return kind
-    return 'a network' if data.startswith(b'format =') or b'[[link]]' in data else ''
+    return ''
 
 
 class NamedNetwork:

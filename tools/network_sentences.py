@@ -11,6 +11,14 @@ import judge
 from named_network import NamedNetwork, Remark, counted, listed, meant, other_kind, shown
 
 
+LINES_OF_WORDS = ['a plan', 'a certificate', 'the table of a trace']  # kinds of files that are no TOML
+SINGLE = re.compile(r'\s*\[\s*(link|signal|signal\.phase)\s*\]')
+UNQUOTED = re.compile(r'\s*[a-z]+\s*=\s*\[?\s*(?!true\b|false\b|inf\b|nan\b)[a-z_]', re.I)  # a key and a word that is no value
+OF_STREETS = ['step', 'horizon', 'vehicle', 'street', 'speed', 'saturation', 'jam', 'length', 'lanes', 'flow', 'flows', 'counts', 'green']
+MAKERS = {'a file of streets': 'tools/network-from-streets makes a network of it',
+          'a file of cycles': 'tools/plan-from-cycles makes a plan of it'}
+
+
 def remark_of(line, data):
     """The remark on a printed line `network ..` and the bytes of the network file, or None where these do not fit together."""
     word, *places = line.split()[1:]
@@ -35,10 +43,11 @@ def place_of_byte(data, at):
     return len(before), len(before[-1].decode(errors='replace')) + 1
 
 
-def remark_of_toml(data):
+def remark_of_toml(data, wanted='a network'):
+    """Why bytes are no TOML, where a file of some kind is wanted."""
     kind = other_kind(data)
-    if kind and kind != 'a network':
-        return Remark(1, 'this is %s, and a network is wanted here' % kind)
+    if kind in LINES_OF_WORDS:
+        return Remark(1, 'this is %s, and %s is wanted here' % (kind, wanted))
     try:
         tomllib.loads(data.decode())
     except UnicodeDecodeError as fault:
@@ -48,12 +57,23 @@ def remark_of_toml(data):
         text = str(fault)
         found = re.fullmatch(r'(.*) \(at line (\d+), column (\d+)\)', text, re.S)
         if found:
-            return Remark(int(found[2]), 'column %s: no TOML: %s' % (found[3], lowered(found[1])))
+            return remark_of_place(data.decode().split('\n'), int(found[2]), found[3], lowered(found[1]))
         last = len(data.rstrip().split(b'\n'))
         return Remark(last, 'no TOML: %s' % lowered(text.replace('(at end of document)', 'at the end of the file')))
     except RecursionError:
         return Remark(None, 'the document has too many nested tables or arrays')
     return Remark(None, 'the library that the program reads TOML by refuses the document; Python\'s accepts it')
+
+
+def remark_of_place(lines, line, column, why):
+    """Why a line is no TOML: what the reader of TOML says, or what is likely meant."""
+    singles = [(number, found[1]) for number, text in enumerate(lines, 1) if (found := SINGLE.match(text))]
+    if singles and singles[0][0] <= line:
+        number, name = singles[0]
+        return Remark(number, 'no TOML: `[%s]` stands in single brackets, and %s begins with double ones, `[[%s]]`' % (
+            name, {'link': 'each link', 'signal': 'each signal', 'signal.phase': 'each phase'}[name], name))
+    hint = '; a text stands between quotes' if line <= len(lines) and UNQUOTED.match(lines[line - 1]) else ''
+    return Remark(line, 'column %s: no TOML: %s%s' % (column, why, hint))
 
 
 def lowered(text):
@@ -69,6 +89,9 @@ def remark_of_format(network):
                       % network.title(*inner[0][:-1]))
     if not network.net:
         return Remark(None, 'the file is empty: it has to begin with `format = 1`')
+    kind = other_kind(network.text.encode())
+    if kind in MAKERS:
+        return Remark(None, 'this is %s, and a network is wanted here; %s' % (kind, MAKERS[kind]))
     return Remark(None, 'the line `format = 1` is missing at the top')
 
 
@@ -90,10 +113,15 @@ def remark_of_key(network, kind, *numbers):
     if number == 0:
         names = [key for key, _, _, _ in keys]
         unknown = [key for key in table if key not in names]
-        return Remark(network.line(*path, unknown[0]), '%s has no key `%s`%s' % (title, unknown[0], meant(unknown[0], names)))
+        hint = meant(unknown[0], names)
+        if not hint and unknown[0] in OF_STREETS:
+            hint = '; a file of streets has it, of which tools/network-from-streets makes a network'
+        return Remark(network.line(*path, unknown[0]), '%s has no key `%s`%s' % (title, unknown[0], hint))
     key, needed, has_type, _ = keys[number - 1]
     if key in table:
-        return Remark(network.line(*path, key), '`%s`%s is %s; wanted is %s' % (key, of(path, title), shown(table[key]), has_type.words))
+        hint = '; each has a header in double brackets' if type(table[key]) is dict and key in ('link', 'signal', 'phase') else ''
+        return Remark(network.line(*path, key), '`%s`%s is %s; wanted is %s%s' % (
+            key, of(path, title), shown(table[key]), has_type.words, hint))
     if not path:
         return Remark(None, '`%s` is missing above all headers' % key)
     beside = '' if needed is True else ', and has `%s`: these two stand together' % needed

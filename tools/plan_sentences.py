@@ -143,6 +143,8 @@ def remark_of_signal(net, lines, front, number):
     names = [signal['name'] for signal in net.get('signal', [])]
     if front.done == len(names):
         why = 'all signals of the network have their block already' if names else 'the network has no signals'
+    elif name not in names:
+        why = 'the network has no such signal%s; wanted is the block of `%s`' % (meant(name, names), names[front.done])
     else:
         why = 'the next signal of the network is `%s`; blocks stand in the order of the network file' % names[front.done]
     return Remark(number, 'a block for `%s` begins, and %s' % (name, why))
