@@ -19,6 +19,16 @@ def lines_of(text):
     return Scan(text).lines
 
 
+def line_in(lines, path):
+    """The line of a path, or of the first that stands in it, or else of what it stands in; None where that is the top table."""
+    while path:
+        inside = [line for other, line in lines.items() if other[:len(path)] == path]
+        if inside:
+            return min(inside)
+        path = path[:-1]
+    return None
+
+
 class Scan:
     """A walk over a document, with the place that it has come to."""
 
