@@ -149,6 +149,11 @@ USED = [
     (['report', 'arterial.toml', 'trace.csv'], ['^main +960 +960 +0 +3840 +4.00 +8.0 +103 +27 +-$']),
     (['compare', 'arterial.toml', 'arterial-together.plan', 'arterial-progression.plan'],
      ['^1 .*arterial-progression.plan +10654 +0 +7.40 +14.8 +0.0 % +main 36 %$', '^2 .*arterial-together.plan +13932 +0 .* 30.8 % ']),
+    (['network-from-streets', 'counted.streets.toml'],
+     ['^cap = 208 .*; rounded down, by 1.5 %, to whole parcels$',
+      '^turns = .*"b", parcel = 7 }, { link = "c", parcel = 1 }\\]  # 88.24 and 11.76 percent, rounded to 87.5 and 12.5$']),
+    (['plan-from-cycles', 'arterial.toml', 'split.cycles.toml'],
+     ['^signal upper\nmain 26\nside 6\nmain 26\n(.*\n)*signal lower\nmain 16\nside 6\nmain 26\nside 6\n']),
 ]
 
 REFUSED = [
@@ -172,11 +177,38 @@ REFUSED = [
     (['network-from-streets', 'refused.streets.toml'],
      'refused.streets.toml:9: `a` and `b` lead into `c`, and `a` and `b` have no signal'),
     (['uniform-delay', 'arterial.toml'], 'usage: tools/uniform-delay'),
-    (['network-from-streets', 'arterial.toml'], 'arterial.toml:4: the top of the file has no key `format`'),
+    (['network-from-streets', 'arterial.toml'], 'arterial.toml: this is a network, and a file of streets is wanted here'),
+    (['network-from-streets', 'many.streets.toml'], 'many.streets.toml:8: [street.a] has 5 turns, and 2 to 4 fit'),
+    (['describe', 'refused.streets.toml'],
+     'this is a file of streets, and a network is wanted here; tools/network-from-streets makes a network of it'),
+    (['plan-from-cycles', 'arterial.toml'], 'usage: tools/plan-from-cycles NET CYCLES.toml'),
+    (['plan-from-cycles', 'arterial.toml', 'missing'], 'plan-from-cycles: missing: no such file or directory'),
+    (['plan-from-cycles', 'missing', 'split.cycles.toml'], 'plan-from-cycles: missing: no such file or directory'),
+    (['plan-from-cycles', 'arterial.toml', 'arterial.toml'], 'arterial.toml: this is a network, and a file of cycles is wanted here'),
+    (['plan-from-cycles', 'arterial.toml', 'arterial-together.plan'], 'arterial-together.plan:1: this is a plan, and a file of cycles is'),
+    (['plan-from-cycles', 'refused.toml', 'split.cycles.toml'], "refused.toml: `steps` is missing above all headers"),
+    (['plan-from-cycles', 'one-link.toml', 'split.cycles.toml'], 'split.cycles.toml:2: the network has no signal `upper`'),
+    (['plan-from-cycles', 'arterial.toml', 'odd.cycles.toml'],
+     'odd.cycles.toml:2: the green of `side` at signal `upper` is 13 seconds, and a step has 2: 12 or 14 seconds fit'),
+    (['plan-from-cycles', 'arterial.toml', 'long.cycles.toml'],
+     'long.cycles.toml:2: the greens of signal `upper` and their clearances come to 78 seconds, and the cycle has 72'),
+    (['plan-from-cycles', 'arterial.toml', 'green.cycles.toml'],
+     'green.cycles.toml:1: the green of `side` at signal `upper` is 1 step, and the network has 4 to 20'),
+    (['replay.py'], 'usage: tools/replay.py NET [PLAN] [--trace]'),
+    (['replay.py', 'missing'], 'replay.py: missing: no such file or directory'),
+    (['replay.py', 'arterial.toml'], 'arterial.toml: the network has signals, so a plan has to be named behind it'),
+    (['compile.py', 'missing'], 'compile.py: missing: no such file or directory'),
+    (['judge.py'], 'usage: tools/judge.py NET [PLAN]'),
+    (['judge.py', 'missing'], 'judge.py: missing: no such file or directory'),
+    (['check_certificate.py', 'missing', 'missing'], 'check_certificate.py: missing: no such file or directory'),
+    (['program-to-lp', 'missing'], 'program-to-lp: missing: no such file or directory'),
+    (['solution-to-point', 'missing', 'missing'], 'solution-to-point: missing: no such file or directory'),
+    (['picture', 'missing'], 'picture: missing is no table of a trace: it is not there'),
+    (['draw-examples', 'missing'], 'usage: tools/draw-examples [FOLDER]'),
 ]
 
 
-# Streets of which the network is refused: two of them lead into a third without a signal.
+# Files that the tools are tried on. The streets MERGING give no network: two of them lead into a third without a signal.
 
 MERGING = b"""step = 2
 horizon = 60
@@ -188,11 +220,24 @@ street.a = { length = 60, to = "c" }
 street.b = { length = 60, to = "c" }
 street.c = { length = 60 }
 """
+ROADS = MERGING[:MERGING.index(b'street.a')]
+ENDS = b''.join(b'street.%c = { length = 60, lanes = 2 }\n' % name for name in b'bcdef')
+MADE = {
+    'refused.toml': b'format = 1\n', 'refused.streets.toml': MERGING,
+    'counted.streets.toml': ROADS.replace(b'1800', b'1900') + ENDS +
+    b'street.a = { length = 60, lanes = 2, counts = { b = 465, c = 62 } }\n',
+    'many.streets.toml': ROADS + b'\nstreet.a = { length = 60, turns = { b = 20, c = 20, d = 20, e = 20, f = 20 } }\n' + ENDS,
+    'split.cycles.toml': b'cycle = 72\nsignal.upper.splits = { main = 78, side = 22 }\n'
+    b'signal.lower = { greens = { main = 52, side = 12 }, offset = 52 }\n',
+    'odd.cycles.toml': b'signal.lower.greens = { main = 52, side = 12 }\nsignal.upper.greens = { main = 52, side = 13 }\n',
+    'long.cycles.toml': b'cycle = 72\nsignal.upper.greens = { main = 58, side = 12 }\nsignal.lower.greens = { main = 52, side = 12 }\n',
+    'green.cycles.toml': b'signal.upper.greens = { main = 52, side = 2 }\nsignal.lower.greens = { main = 52, side = 12 }\n',
+}
 
 
 def tool_checks():
     words = {word for call, _ in USED + REFUSED for word in call}
-    with folder_with({'refused.toml': b'format = 1\n', 'refused.streets.toml': MERGING}, words):
+    with folder_with(MADE, words):
         table = run(TOOLS / 'replay.py', ['arterial.toml', 'arterial-progression.plan', '--trace'])
         pathlib.Path('trace.csv').write_bytes(table.stdout)
         for call, wanted in USED:
