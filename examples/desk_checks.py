@@ -140,7 +140,7 @@ USED = [
     (['uniform-delay'], ['^30 s +900 +1.00 +15.0 s +15.0 s']),
     (['describe', 'arterial.toml', 'arterial-progression.plan'],
      ['^180 steps of 2 seconds, 7 links, 29 cells of which 3 are queues, 2 signals; a vehicle is 10 units$',
-      '^ *0 +main +6 +5 +20 +80 +1/3 +20.0 +first_block +upper: main +60 %$', '^ +0 +upper +1 +side +70 +4 +20 +2 +main +mill_street$']),
+      '^ *0 +main +6 +5 +0-5 +20 +80 +1/3 +20.0 +first_block +upper: main +60 %$', '^ +0 +upper +1 +side +70 +4 +20 +2 +main +mill_street$']),
     (['describe', 'turning-movements.toml'],
      ['^warning: turning-movements.toml:[0-9]+: parcels of 3 units use 9 of the `cap` of 10 of link `south`$']),
     (['report', 'arterial.toml', 'trace.csv', 'arterial-progression.plan'],

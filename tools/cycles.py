@@ -49,7 +49,8 @@ def judge_cycles(top, network):
         if name not in names:
             raise Refused(path, 'the network has no signal `%s`%s' % (name, meant(name, names)))
         if type(signal) is not dict:
-            raise Refused(path, '%s is %s; wanted is a table' % (title(path), shown(signal)))
+            raise Refused(path, '%s is %s; wanted is a table%s' % (
+                title(path), shown(signal), ', whose header has single brackets' if type(signal) is list else ''))
         streets.judge_keys(KEYS['signal'], path, signal)
     missing = [name for name in names if name not in top['signal']]
     if missing:

@@ -83,7 +83,8 @@ def judge_names(path, tables):
         if not judge.is_name(name):
             raise Refused(path + (name,), '`%s` is no name; wanted is a text %s' % (name, judge.is_name.words))
         if type(values) is not dict:
-            raise Refused(path + (name,), '%s is %s; wanted is a table' % (title(path + (name,)), shown(values)))
+            raise Refused(path + (name,), '%s is %s; wanted is a table%s' % (
+                title(path + (name,)), shown(values), ', whose header has single brackets' if type(values) is list else ''))
 
 
 def judge_streets(top):
