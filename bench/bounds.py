@@ -22,7 +22,7 @@ import program as programs
 
 TOOLS = measure.TOP / 'tools'
 EXAMPLES = ['two-junctions.toml', 'two-phase-intersection.toml', 'turning-movements.toml', 'arterial.toml']
-GENERATED = [0, 2, 7]
+GENERATED = [0, 1, 2, 3, 7, 11, 23, 131]
 BUDGETS = [1, 9, 41, 445, 829]
 MOST_WORK = 8_000_000  # the most that a budget times the rows of a program may be
 SOLVER_SECONDS = 120

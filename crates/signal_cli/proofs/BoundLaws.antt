@@ -23,7 +23,7 @@ use Rattle.certificate_model.proofs.VerdictLaws.{accepted_is, accepted_is_safe, 
 use Rattle.solve_core.specs.Solved.{solve_faults}
 use Rattle.solve_core.specs.declared.fault.SolveFault.{SolveFault}
 use Rattle.signal_cli.specs.Accepted.{Shows}
-use Rattle.signal_cli.specs.Answers.{◌>>=◌, IsJudged, found, network, network_as, network_from, network_in, plan, plan_from, plan_in, planned_as, searchable, searchable_as, searchable_in, sized, sized_as, sized_in, sized_planned_in, with_plan}
+use Rattle.signal_cli.specs.Answers.{◌>>=◌, IsJudged, content_of, found, network, network_as, network_from, network_in, plan, plan_from, plan_in, planned_as, searchable, searchable_as, searchable_in, sized, sized_as, sized_in, sized_planned_in, with_plan}
 use Rattle.signal_cli.specs.Bounds.{IsSafe}
 use Rattle.signal_cli.specs.Faults.{reply_status}
 use Rattle.signal_cli.specs.declared.fault.Fault.{Fault}
@@ -43,17 +43,21 @@ network_bytes : (bytes : List ℕ) (named : Named) → network bytes ≡ Ok name
 unfolding network
 network_bytes bytes named is = network_made (spelled_network bytes) named is
 
+-- what a file holds with some bytes is a network where they spell it
+pub content_spelled : (bytes : List ℕ) (named : Named) → network_from (content_of MAX_FILE_BYTES bytes) ≡ Ok named → spelled_network bytes ≡ Ok named
+content_spelled bytes named is = by_length (nat_lt MAX_FILE_BYTES (length bytes)) is
+  where
+    by_length : (long : Bool) → network_from (if long then TooLong else Whole bytes) ≡ Ok named → spelled_network bytes ≡ Ok named
+    by_length true is = absurd (cc)
+    by_length false is = network_bytes bytes named is
+
 -- the network in a file is the one that its bytes spell
 pub network_spelled : (files : Files) (name : List ℕ) (named : Named) → network_in files name ≡ Ok named → (bytes : List ℕ) × (bytes_of files name ≡ Some bytes) × (spelled_network bytes ≡ Ok named)
 network_spelled files name named is = by_bytes (bytes_of files name) refl is
   where
-    by_length : (bytes : List ℕ) (long : Bool) → network_from (if long then TooLong else Whole bytes) ≡ Ok named → spelled_network bytes ≡ Ok named
-    by_length bytes true is = absurd (cc)
-    by_length bytes false is = network_bytes bytes named is
-
     by_bytes : (seen : Option (List ℕ)) → bytes_of files name ≡ seen → (found MAX_FILE_BYTES seen >>= network_from) ≡ Ok named → (bytes : List ℕ) × (bytes_of files name ≡ Some bytes) × (spelled_network bytes ≡ Ok named)
     by_bytes None there is = absurd (cc)
-    by_bytes (Some bytes) there is = (bytes, there, by_length bytes (nat_lt MAX_FILE_BYTES (length bytes)) is)
+    by_bytes (Some bytes) there is = (bytes, there, content_spelled bytes named is)
 
 -- the network in a file is valid
 pub network_valid : (files : Files) (name : List ℕ) (named : Named) → network_in files name ≡ Ok named → IsValid named.net
@@ -73,17 +77,18 @@ sized_network files name named is = by_found (network_in files name) refl is
     by_found (Err fault) found is = absurd (cc)
     by_found (Ok first) found is = found ∙ ap (λ (named : Named). Ok named) (by_faults first (size_faults first.net) is)
 
+-- a network whose size was judged for a budget is the one that was judged
+pub searchable_made : (made : Result Named Fault) (budget : ℕ) (named : Named) → (made >>= searchable budget) ≡ Ok named → made ≡ Ok named
+searchable_made (Err fault) budget named is = absurd (cc)
+searchable_made (Ok first) budget named is = ap (λ (named : Named). Ok named) (by_faults (solve_faults first.net budget) is)
+  where
+    by_faults : (faults : List SolveFault) → searchable_as (unless faults first) ≡ Ok named → first ≡ named
+    by_faults [] is = cc
+    by_faults (fault ∷ faults) is = absurd (cc)
+
 -- and so is one whose size was judged for a budget
 pub searchable_network : (files : Files) (name : List ℕ) (budget : ℕ) (named : Named) → searchable_in files name budget ≡ Ok named → network_in files name ≡ Ok named
-searchable_network files name budget named is = by_found (network_in files name) refl is
-  where
-    by_faults : (first : Named) (faults : List SolveFault) → searchable_as (unless faults first) ≡ Ok named → first ≡ named
-    by_faults first [] is = cc
-    by_faults first (fault ∷ faults) is = absurd (cc)
-
-    by_found : (made : Result Named Fault) → network_in files name ≡ made → (made >>= searchable budget) ≡ Ok named → network_in files name ≡ Ok named
-    by_found (Err fault) found is = absurd (cc)
-    by_found (Ok first) found is = found ∙ ap (λ (named : Named). Ok named) (by_faults first (solve_faults first.net budget) is)
+searchable_network files name budget named is = searchable_made (network_in files name) budget named is
 
 -- the bound of an accepted text is safe for the network in the file
 unfoldable pub safe_for : (files : Files) (network : List ℕ) (named : Named) → network_in files network ≡ Ok named → (text : List ℕ) (bound : ℤ) → IsVerdict named.net text (Accepted bound) → IsSafe network bound files

@@ -1,4 +1,4 @@
--- That a run of `check`, `gap`, `solve` or `point` which keeps its promise is sound, and one of `check`, `gap` or `point` exact.
+-- That a run of `check`, `gap`, `solve`, `point` or `demo` which keeps its promise is sound, and one of `check`, `gap` or `point` exact.
 use Rattle.std.proofs.Common.{◌≡◌, ℕ, ◌≤◌, ◌⊎◌, inl, inr, true, List, ◌++◌, Option, Some, None, Result, Ok, Err, IfSome, refl, ap, sym, subst, ◌∙◌, arith}
 use Rattle.std.specs.Prelude.{ℤ}
 use Rattle.shelf_io.specs.Told.{Files, with_taken}
@@ -16,7 +16,7 @@ use Rattle.signal_cli.specs.Accepted.{CanBeJudged, Decides, HoldsBoth, IsExact, 
 use Rattle.signal_cli.specs.Answers.{◌>>=◌, CheckGives, Follows, GapGives, IsJudged, check_reply, gap_reply, network_in, sized_in, sized_planned_in, with_certificate}
 use Rattle.signal_cli.specs.BoundLines.{accepted_lines, gap_lines}
 use Rattle.signal_cli.specs.Bounds.{IsGap, IsSafe, delay_under}
-use Rattle.signal_cli.specs.Commands.{Check, Command, Encode, Gap, Point, Program, Replay, Solve, Trace, are_names, inputs_of, outputs_of}
+use Rattle.signal_cli.specs.Commands.{Check, Command, Demo, Encode, Gap, Point, Program, Replay, Solve, Trace, are_names, inputs_of, outputs_of}
 use Rattle.signal_cli.specs.Faults.{outcome_status, reply_status}
 use Rattle.signal_cli.specs.Promises.{Keeps}
 use Rattle.signal_cli.specs.Sound.{IsSound}
@@ -26,6 +26,7 @@ use Rattle.signal_cli.specs.declared.input.Content.{Content}
 use Rattle.signal_cli.specs.declared.input.Planned.{Planned}
 use Rattle.signal_cli.specs.declared.reply.Reply.{Reply}
 use Rattle.signal_cli.proofs.BoundLaws.{accepted_shows, both_read, network_spelled, network_valid, plan_spelled, safe_for, sized_network, was_accepted, was_rejected}
+use Rattle.signal_cli.proofs.DemoPromises.{puts_demo}
 use Rattle.signal_cli.proofs.Followed.{IsRead, is_read, reply_is_due}
 use Rattle.signal_cli.proofs.PointPromises.{decides_point, decides_point_at_8, puts_decoded}
 use Rattle.signal_cli.proofs.Reading.{for_files}
@@ -171,9 +172,13 @@ is_sound (Solve network budget plan certificate) before after status names keeps
     let answered = keeps.answered (omega (arith, zero)) in
     let solved = solved_for before.shelf.files network budget plan certificate answered.reply answered.deserved in
     puts_plan network budget plan certificate before after (names_differ network plan certificate names) answered.reply answered.written answered.put solved.0 solved.1 solved.2
+is_sound (Demo number) before after status names keeps = λ zero.
+    let answered = keeps.answered (omega (arith, zero)) in
+    puts_demo number before after answered.reply answered.deserved answered.put
 
 -- and exact
 pub is_exact : (command : Option Command) (before after : World) (status : ℕ) → Keeps command before after status → IsExact command before after status
+unfolding IsExact
 is_exact None before after status keeps = tt
 is_exact (Some (Replay network plan)) before after status keeps = tt
 is_exact (Some (Trace network plan table)) before after status keeps = tt
@@ -183,6 +188,7 @@ is_exact (Some (Solve network budget plan certificate)) before after status keep
 is_exact (Some (Point network point)) before after status keeps =
     decides_point before after before.shelf.files network point status
     (λ small. let answered = keeps.answered small in (answered.reply, answered.deserved, answered.is)) keeps.complete
+is_exact (Some (Demo number)) before after status keeps = tt
 is_exact (Some (Check network certificate)) before after status keeps =
     decided before after (λ files. sized_in files network) (λ (named : Named). named) (λ (named : Named). check_reply) network certificate (sized_of network) (λ (named : Named). check_rejects) (λ (named : Named). check_accepts) (PutsAccepted before after)
     (λ named bound reply is put. put ∙ ap (λ (reply : Reply). with_taken before.out reply.lines) is) before.shelf.files status
@@ -203,6 +209,7 @@ sound_at_8 (Some (Point network point)) before after = λ zero. absurd (omega (a
 sound_at_8 (Some (Check network certificate)) before after = λ zero. absurd (omega (arith, zero))
 sound_at_8 (Some (Gap network plan certificate)) before after = λ zero. absurd (omega (arith, zero))
 sound_at_8 (Some (Solve network budget plan certificate)) before after = λ zero. absurd (omega (arith, zero))
+sound_at_8 (Some (Demo number)) before after = λ zero. absurd (omega (arith, zero))
 
 decided_at_8 : {X : Type 0} (told : Option Files) (made : Files → Result X Fault) (network certificate : List ℕ) (before after : World) (Puts : ℤ → Type 0) → IfSome told (λ files. Decides (made files) files network certificate before after Puts 8)
 decided_at_8 None made network certificate before after Puts = tt
@@ -213,6 +220,7 @@ decided_at_8 (Some files) made network certificate before after Puts = record {
 }
 
 pub exact_at_8 : (command : Option Command) (before after : World) → IsExact command before after 8
+unfolding IsExact
 exact_at_8 None before after = tt
 exact_at_8 (Some (Replay network plan)) before after = tt
 exact_at_8 (Some (Trace network plan table)) before after = tt
@@ -220,5 +228,6 @@ exact_at_8 (Some (Program network text)) before after = tt
 exact_at_8 (Some (Encode network plan text)) before after = tt
 exact_at_8 (Some (Solve network budget plan certificate)) before after = tt
 exact_at_8 (Some (Point network point)) before after = decides_point_at_8 before after before.shelf.files network point
+exact_at_8 (Some (Demo number)) before after = tt
 exact_at_8 (Some (Check network certificate)) before after = decided_at_8 before.shelf.files (λ files. sized_in files network) network certificate before after (PutsAccepted before after)
 exact_at_8 (Some (Gap network plan certificate)) before after = decided_at_8 before.shelf.files (λ files. sized_planned_in files network plan) network certificate before after (PutsCompared before after)

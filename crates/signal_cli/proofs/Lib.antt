@@ -1,9 +1,11 @@
 pub mod BoundLaws
 pub mod BoundPromises
+pub mod DemoPromises
 pub mod FileLists
 pub mod Followed
 pub mod KeptPromises
 pub mod KnownLimits
+pub mod Making
 pub mod NamedOutputs
 pub mod Pieces
 pub mod PointPromises

@@ -16,8 +16,9 @@ use Rattle.point_decode.specs.declared.broken.Broken.TheVariants as broken
 use Rattle.point_decode.specs.declared.decoding.Decoded.{Decoded}
 use Rattle.certificate_model.specs.declared.verdict.Verdict.{Verdict}
 use Rattle.certificate_model.specs.declared.verdict.Verdict.TheVariants.{Accepted, Rejected}
-use Rattle.signal_cli.specs.Answers.{◌>>=◌, Deserves, Follows, IsBrokenReply, IsJudged, IsPointReply, IsSearchReply, IsTextReply, IsValuesReply, check_reply, gap_reply, network_in, planned_in, point_reply, printed, program_reply, replay_alone, replay_lines, searchable_in, sized_in, sized_planned_in, trace_reply, with_certificate, with_content}
-use Rattle.signal_cli.specs.Commands.{Check, Command, Encode, Gap, Point, Program, Replay, Solve, Trace, outputs_of}
+use Rattle.signal_cli.specs.Answers.{◌>>=◌, Deserves, Follows, IsBrokenReply, IsDemoReply, IsJudged, IsPointReply, IsSearchReply, IsTextReply, IsValuesReply, check_reply, demo_budget, gap_reply, network_in, planned_in, point_reply, printed, program_reply, replay_alone, replay_lines, searchable_in, searchable_text, sized_in, sized_planned_in, trace_reply, with_certificate, with_content}
+use Rattle.signal_cli.specs.Commands.{Check, Command, Demo, Encode, Gap, Point, Program, Replay, Solve, Trace, outputs_of}
+use Rattle.generated_nets.specs.Generated.{generated_text}
 use Rattle.signal_cli.specs.declared.fault.Fault.{Fault}
 use Rattle.signal_cli.specs.declared.input.Content.{Content}
 use Rattle.signal_cli.specs.declared.input.Content.TheVariants.{TooLong, Whole}
@@ -100,3 +101,5 @@ outputs_are_named (Gap network plan certificate) files reply is =
     due (with_certificate (sized_planned_in files network plan) files certificate) (λ read. IsJudged read.0.named.net (gap_reply read.0) read.1) [] (λ read reply is. judged read.0.named.net (gap_reply read.0) (compared read.0) read.1 reply is) reply is
 outputs_are_named (Solve network budget plan certificate) files reply is =
     due (searchable_in files network budget) (IsSearchReply budget plan certificate) (plan ∷ certificate ∷ []) (λ named reply is. ap (λ (reply : Reply). names_of reply.outputs) is.is) reply is
+outputs_are_named (Demo number) files reply is =
+    due (searchable_text (generated_text number) demo_budget) (IsDemoReply number) [] (λ named reply is. ap (λ (reply : Reply). names_of reply.outputs) is.is) reply is

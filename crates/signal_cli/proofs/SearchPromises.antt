@@ -1,5 +1,5 @@
 -- That a run of `solve` which keeps its promise wrote a plan and a certificate, and printed what it found.
-use Rattle.std.proofs.Common.{◌≡◌, ℕ, ◌≤◌, Bool, true, false, not, ◌||◌, cond, List, [], ◌∷◌, length, map as mapped, Option, Some, None, option_map, Result, Ok, Err, refl, ap, sym, subst, ◌∙◌}
+use Rattle.std.proofs.Common.{◌≡◌, ℕ, ◌≤◌, Bool, true, false, not, ◌||◌, cond, List, [], ◌∷◌, length, Option, Some, None, option_map, Result, Ok, Err, refl, ap, sym, subst, ◌∙◌}
 use Rattle.std.proofs.lemmas.Bool.{and_parts}
 use Rattle.std.specs.List.{list_any}
 use Rattle.std.specs.Str.{bytes_eq}
@@ -17,10 +17,9 @@ use Rattle.certificate_model.specs.Nodes.{nodes_of}
 use Rattle.certificate_model.specs.Text.{Reads, certificate_text}
 use Rattle.certificate_model.specs.declared.constants.TheConstants.{MAX_CERTIFICATE_BYTES}
 use Rattle.certificate_model.proofs.VerdictLaws.{is_accepted}
-use Rattle.cert_format.specs.Marks.{node_of}
 use Rattle.solve_core.specs.Solved.{IsFound, IsSolved}
 use Rattle.solve_core.specs.declared.solved.Solved.{Solved}
-use Rattle.signal_cli.specs.Answers.{Follows, IsSearchReply, SolveGives, network_in, searchable_in, solve_reply}
+use Rattle.signal_cli.specs.Answers.{Follows, IsSearchReply, SolveGives, network_in, searchable_in, solve_reply, solved_text}
 use Rattle.signal_cli.specs.Commands.{are_names, is_empty}
 use Rattle.signal_cli.specs.Searches.{Holds, IsCertificateText, IsPlanText, IsPlanned, IsStateOf, PutsPlan}
 use Rattle.signal_cli.specs.Worlds.{ForFiles, World, with_files}
@@ -29,13 +28,9 @@ use Rattle.signal_cli.specs.declared.reply.Reply.{Reply}
 use Rattle.signal_cli.proofs.BoundLaws.{network_spelled, safe_for, searchable_network}
 use Rattle.signal_cli.proofs.Reading.{for_files}
 
--- the text of the certificate that a search found
-abbrev text_of : Solved → List ℕ
-text_of solved = certificate_text solved.cert.bound (mapped node_of solved.cert.nodes)
-
-certificate_is : (net : Net) (budget : ℕ) (solved : Solved) → IsSolved net budget solved → IsCertificateText net budget solved.delay solved.cert.bound solved.nodes (text_of solved)
+pub certificate_is : (net : Net) (budget : ℕ) (solved : Solved) → IsSolved net budget solved → IsCertificateText net budget solved.delay solved.cert.bound solved.nodes (solved_text solved)
 certificate_is net budget solved is =
-    let same : certificate_text solved.cert.bound (nodes_of is.tree) ≡ text_of solved = ap (certificate_text solved.cert.bound) (sym is.written) in
+    let same : certificate_text solved.cert.bound (nodes_of is.tree) ≡ solved_text solved = ap (certificate_text solved.cert.bound) (sym is.written) in
     let P : List ℕ → Type 0 = λ text. Reads text solved.cert.bound is.tree in
     let Q : List ℕ → Type 0 = λ text. length text ≤ MAX_CERTIFICATE_BYTES in
     let R : ℕ → Type 0 = λ nodes. nodes ≤ budget in
@@ -69,14 +64,14 @@ plan_is named solved text fits found spells = record {
 }
 
 -- what a search found for the network in a file
-planned_for : (files : Files) (network : List ℕ) (budget : ℕ) (named : Named) (solved : Solved) (text : List ℕ) → searchable_in files network budget ≡ Ok named → IsSolved named.net budget solved → Spells named text solved.plan → IsPlanned network budget solved.delay solved.cert.bound solved.nodes solved.state text (text_of solved) files
+planned_for : (files : Files) (network : List ℕ) (budget : ℕ) (named : Named) (solved : Solved) (text : List ℕ) → searchable_in files network budget ≡ Ok named → IsSolved named.net budget solved → Spells named text solved.plan → IsPlanned network budget solved.delay solved.cert.bound solved.nodes solved.state text (solved_text solved) files
 unfolding safe_for
 planned_for files network budget named solved text read is spells =
     let found : network_in files network ≡ Ok named = searchable_network files network budget named read in
     let spelled = network_spelled files network named found in
     let certificate = certificate_is named.net budget solved is in
     record {
-      safe = safe_for files network named found (text_of solved) solved.cert.bound (is_accepted named.net (text_of solved) solved.cert.bound certificate.accepted);
+      safe = safe_for files network named found (solved_text solved) solved.cert.bound (is_accepted named.net (solved_text solved) solved.cert.bound certificate.accepted);
       plan_text = plan_is named solved text (spelled_is_named spelled.0 named spelled.2) is.found spells;
       certificate_text = certificate;
       state_of = state_is named.net budget solved is;
@@ -87,7 +82,7 @@ abbrev due_files : (plan certificate text : List ℕ) → Solved → List File
 due_files plan certificate text solved = (solve_reply plan certificate text solved).outputs
 
 -- what was read, and the reply that is due to it
-followed : {X : Type 0} (made : Result X Fault) (IsDue : X → Reply → Type 0) (reply : Reply) → Follows made IsDue (Ok reply) → (x : X) × (made ≡ Ok x) × IsDue x reply
+pub followed : {X : Type 0} (made : Result X Fault) (IsDue : X → Reply → Type 0) (reply : Reply) → Follows made IsDue (Ok reply) → (x : X) × (made ≡ Ok x) × IsDue x reply
 followed (Ok x) IsDue reply due = (x, refl, due)
 followed (Err fault) IsDue reply due = absurd (cc)
 
@@ -127,7 +122,7 @@ puts_plan network budget plan certificate before after differ reply written put 
     let solved : Solved = due.solved in
     let shelf : after.shelf ≡ with_files before.shelf (due_files plan certificate due.text solved) = written ∙ ap (λ (reply : Reply). with_files before.shelf reply.outputs) due.is in
     let P : ShelfState → Type 0 = λ shelf. Holds shelf.files plan due.text in
-    let Q : ShelfState → Type 0 = λ shelf. Holds shelf.files certificate (text_of solved) in
+    let Q : ShelfState → Type 0 = λ shelf. Holds shelf.files certificate (solved_text solved) in
     let told : Option Files = option_map (λ (files : Files). map.insert files plan due.text) before.shelf.files in
     record {
       delay = solved.delay;
@@ -136,9 +131,9 @@ puts_plan network budget plan certificate before after differ reply written put 
       state = solved.state;
       put = put ∙ ap (λ (reply : Reply). with_taken before.out reply.lines) due.is;
       plan_text = due.text;
-      plan_holds = subst P (sym shelf) (first_stays before.shelf.files plan certificate due.text (text_of solved) differ);
-      certificate_text = text_of solved;
-      certificate_holds = subst Q (sym shelf) (last_stands told certificate (text_of solved));
-      planned = for_files before.shelf.files (λ files. searchable_in files network budget ≡ Ok named) (IsPlanned network budget solved.delay solved.cert.bound solved.nodes solved.state due.text (text_of solved))
+      plan_holds = subst P (sym shelf) (first_stays before.shelf.files plan certificate due.text (solved_text solved) differ);
+      certificate_text = solved_text solved;
+      certificate_holds = subst Q (sym shelf) (last_stands told certificate (solved_text solved));
+      planned = for_files before.shelf.files (λ files. searchable_in files network budget ≡ Ok named) (IsPlanned network budget solved.delay solved.cert.bound solved.nodes solved.state due.text (solved_text solved))
           (λ files is. planned_for files network budget named solved due.text is due.searched due.spells) read;
     }

@@ -71,7 +71,7 @@ pub record DecidesPoint (files : Files) (network point : List ℕ) (before after
   pub complete : NoneFailed before after → CanBeDecoded files network point → (status ≤ 1) ⊎ (status ≡ 8)
 
 -- what `check`, `gap` and `point` decide where files are told
-abbrev pub IsExact : Option Command → World → World → ℕ → Type 0
+unfoldable pub IsExact : Option Command → World → World → ℕ → Type 0
 IsExact (Some (Point network point)) before after status = IfSome before.shelf.files (λ files. DecidesPoint files network point before after status)
 IsExact (Some (Check network certificate)) before after status = IfSome before.shelf.files (λ files. Decides (sized_in files network) files network certificate before after (PutsAccepted before after) status)
 IsExact (Some (Gap network plan certificate)) before after status = IfSome before.shelf.files (λ files. Decides (sized_planned_in files network plan) files network certificate before after (PutsCompared before after) status)

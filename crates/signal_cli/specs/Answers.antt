@@ -43,8 +43,10 @@ use Rattle.cert_format.specs.Marks.{node_of}
 use Rattle.solve_core.specs.Solved.{IsSolved, solve_faults}
 use Rattle.solve_core.specs.declared.fault.SolveFault.{SolveFault}
 use Rattle.solve_core.specs.declared.solved.Solved.{Solved}
+use Rattle.generated_nets.specs.Generated.{generated_text}
 use Rattle.signal_cli.specs.BoundLines.{accepted_lines, gap_lines}
-use Rattle.signal_cli.specs.Commands.{Check, Command, Encode, Gap, Point, Program, Replay, Solve, Trace}
+use Rattle.signal_cli.specs.Commands.{Check, Command, Demo, Encode, Gap, Point, Program, Replay, Solve, Trace}
+use Rattle.signal_cli.specs.DemoLines.{demo_lines}
 use Rattle.signal_cli.specs.Faults.{uncompiled_of, unsolved_of}
 use Rattle.signal_cli.specs.PointLines.{decoded_lines, refused_lines, too_long_lines}
 use Rattle.signal_cli.specs.RejectionLines.{long_lines, rejected_lines}
@@ -291,12 +293,16 @@ searchable_in files name budget = network_in files name >>= searchable budget
 abbrev pub both_filed : (first second : File) → List ℕ → Reply
 both_filed first second lines = record { rejected = false; lines = lines; outputs = first ∷ second ∷ [] }
 
+-- the text of the certificate that a search found
+abbrev pub solved_text : Solved → List ℕ
+solved_text solved = certificate_text solved.cert.bound (map node_of solved.cert.nodes)
+
 -- the text of a plan for one file, that of a certificate for another, and the lines of a search
 abbrev pub solve_reply : (plan certificate text : List ℕ) → Solved → Reply
 solve_reply plan certificate text solved =
     both_filed
     (record { name = plan; bytes = text })
-    (record { name = certificate; bytes = certificate_text solved.cert.bound (map node_of solved.cert.nodes) })
+    (record { name = certificate; bytes = solved_text solved })
     (summary_lines solved.delay solved.cert.bound solved.nodes solved.state)
 
 -- the reply is to what some search within a budget comes to for a network: its plan and its certificate, and its lines
@@ -311,6 +317,33 @@ pub record IsSearchReply (budget : ℕ) (plan certificate : List ℕ) (named : N
 abbrev pub SolveGives : List ℕ → ℕ → (plan certificate : List ℕ) → Files → Result Reply Fault → Type 0
 SolveGives network budget plan certificate files outcome = Follows (searchable_in files network budget) (IsSearchReply budget plan certificate) outcome
 
+-- the budget of nodes of a demonstration
+abbrev pub demo_budget : ℕ
+demo_budget = 9
+
+-- the network that a text spells, judged as a file that holds the text, and its size for a budget of nodes
+abbrev pub searchable_text : List ℕ → ℕ → Result Named Fault
+searchable_text text budget = network_from (content_of MAX_FILE_BYTES text) >>= searchable budget
+
+-- the lines of a demonstration and the text of a plan, for what a search came to
+abbrev pub demo_reply : ℕ → Net → Solved → List ℕ → Reply
+demo_reply number net solved text =
+    let program = program_of net in
+    printed (demo_lines number (length program.rows) (length program.columns) (summary_lines solved.delay solved.cert.bound solved.nodes solved.state) text)
+
+-- the reply is to what some search comes to for a generated network: its lines, and its plan. Its certificate is accepted.
+pub record IsDemoReply (number : ℕ) (named : Named) (reply : Reply) : Type 0 where
+  pub solved : Solved
+  pub searched : IsSolved named.net demo_budget solved
+  pub accepted : IsVerdict named.net (solved_text solved) (Accepted solved.cert.bound)
+  pub text : List ℕ
+  pub spells : Spells named text solved.plan
+  pub is : reply ≡ demo_reply number named.net solved text
+
+-- `demo NUMBER`, which is the same whatever the files hold
+abbrev pub DemoGives : ℕ → Result Reply Fault → Type 0
+DemoGives number outcome = Follows (searchable_text (generated_text number) demo_budget) (IsDemoReply number) outcome
+
 -- which outcome the files deserve of a command: a reply, or the first fault in the order of judging
 abbrev pub Deserves : Command → Files → Result Reply Fault → Type 0
 Deserves (Replay network plan) files outcome = replay_of files network plan ≡ outcome
@@ -321,3 +354,4 @@ Deserves (Point network point) files outcome = PointGives network point files ou
 Deserves (Check network certificate) files outcome = CheckGives network certificate files outcome
 Deserves (Gap network plan certificate) files outcome = GapGives network plan certificate files outcome
 Deserves (Solve network budget plan certificate) files outcome = SolveGives network budget plan certificate files outcome
+Deserves (Demo number) files outcome = DemoGives number outcome

@@ -14,6 +14,7 @@ pub data Command : Type 0 where
   Check : (network certificate : List ℕ) → Command
   Gap : (network plan certificate : List ℕ) → Command
   Solve : (network : List ℕ) (budget : ℕ) (plan certificate : List ℕ) → Command
+  Demo : (number : ℕ) → Command
 
 -- the files of a command that are read, in the order of reading
 abbrev pub inputs_of : Command → List (List ℕ)
@@ -26,6 +27,7 @@ inputs_of (Point network point) = network ∷ point ∷ []
 inputs_of (Check network certificate) = network ∷ certificate ∷ []
 inputs_of (Gap network plan certificate) = network ∷ plan ∷ certificate ∷ []
 inputs_of (Solve network budget plan certificate) = network ∷ []
+inputs_of (Demo number) = []
 
 -- the files of a command that are written, in the order of writing
 abbrev pub outputs_of : Command → List (List ℕ)
@@ -37,6 +39,7 @@ outputs_of (Point network point) = []
 outputs_of (Check network certificate) = []
 outputs_of (Gap network plan certificate) = []
 outputs_of (Solve network budget plan certificate) = plan ∷ certificate ∷ []
+outputs_of (Demo number) = []
 
 -- the name has no byte
 abbrev pub is_empty : List ℕ → Bool
@@ -57,9 +60,15 @@ allowed (Some nodes) = if nat_le 1 nodes && nat_le nodes 4294967295 then Some no
 abbrev pub budget_in : List ℕ → Option ℕ
 budget_in word = allowed (natural_in 10 word)
 
+-- the number of a generated network that a word names: one of at most four digits, with one spelling
+abbrev pub generated_in : List ℕ → Option ℕ
+generated_in word = natural_in 4 word
+
 -- the command whose form the words have, whatever its files are called
 abbrev pub form_of : List (List ℕ) → Option Command
-form_of (command ∷ network ∷ []) = if bytes_eq command (codes "replay") then Some (Replay network None) else None
+form_of (command ∷ first ∷ []) =
+    if bytes_eq command (codes "replay") then Some (Replay first None) else
+    (if bytes_eq command (codes "demo") then option_map Demo (generated_in first) else None)
 form_of (command ∷ network ∷ second ∷ []) =
     if bytes_eq command (codes "replay") then Some (Replay network (Some second)) else
     (if bytes_eq command (codes "program") then Some (Program network second) else

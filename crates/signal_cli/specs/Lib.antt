@@ -3,6 +3,8 @@ pub mod Answers
 pub mod BoundLines
 pub mod Bounds
 pub mod Commands
+pub mod DemoLines
+pub mod Demos
 pub mod Faults
 pub mod PointLines
 pub mod Points

@@ -1,15 +1,18 @@
 //! What the words of a command line ask for.
 
 ghost use Rattle.std.specs.Prelude.{◌≡◌, ◌≤◌, [], ◌∷◌, ◌++◌, IfSome, true, option_map};
-ghost use Rattle.signal_cli.specs.Commands.{budget_in, command_of, form_of, inputs_of, outputs_of};
+ghost use Rattle.signal_cli.specs.Commands.{budget_in, command_of, form_of, generated_in, inputs_of, outputs_of};
 ghost use Rattle.signal_cli.specs.Commands as said;
-ghost use Rattle.signal_cli.specs.inner.CommandViews.{HasBudget, view_of};
+ghost use Rattle.signal_cli.specs.inner.CommandViews.{HasNumber, view_of};
 
 use shelf_io::{Text, Words};
 use texts::natural;
 
 /// The most digits of a budget.
 const BUDGET_DIGITS: usize = 10;
+
+/// The most digits of the number of a generated network.
+const GENERATED_DIGITS: usize = 4;
 
 /// A command with the names of its files.
 #[derive(Clone, Copy)]
@@ -59,13 +62,17 @@ pub enum Command<'a> {
         plan: &'a str,
         certificate: &'a str,
     },
+    /// What a search finds for a generated network: nothing is read, and nothing is written but to the output.
+    Demo {
+        number: u16,
+    },
 }
 
 /// The command that the words ask for, or none where they are of no form.
 pub fn parse(words: &Words) -> Option<Command<'_>>
     ensures value { option_map view_of result ≡ command_of words.now }
     ensures names { IfSome result (λ command. said.are_names (inputs_of (view_of command) ++ outputs_of (view_of command)) ≡ true) }
-    ensures budget { IfSome result HasBudget }
+    ensures number { IfSome result HasNumber }
 {
     let command = form(words.as_slice())?;
     if has_names(&command) {
@@ -78,13 +85,14 @@ pub fn parse(words: &Words) -> Option<Command<'_>>
 /// The command whose form the words have, whatever its files are called.
 fn form(words: &[Text]) -> Option<Command<'_>>
     ensures value { option_map view_of result ≡ form_of words.now }
-    ensures budget { IfSome result HasBudget }
+    ensures number { IfSome result HasNumber }
 {
     match words {
         [command, network] if command.as_str() == "replay" => Some(Command::Replay {
             network: network.as_str(),
             plan: None,
         }),
+        [command, number] if command.as_str() == "demo" => demonstration(number.as_str()),
         [command, network, plan] if command.as_str() == "replay" => Some(Command::Replay {
             network: network.as_str(),
             plan: Some(plan.as_str()),
@@ -134,7 +142,7 @@ fn search<'a>(
     certificate: &'a str,
 ) -> Option<Command<'a>>
     ensures value { option_map view_of result ≡ option_map (λ nodes. said.Solve network.now nodes plan.now certificate.now) (budget_in budget.now) }
-    ensures budget { IfSome result HasBudget }
+    ensures number { IfSome result HasNumber }
 {
     let budget = budget_of(budget)?;
     Some(Command::Solve {
@@ -142,6 +150,17 @@ fn search<'a>(
         budget,
         plan,
         certificate,
+    })
+}
+
+/// The demonstration whose word this is, if it is the number of a generated network.
+fn demonstration<'a>(number: &str) -> Option<Command<'a>>
+    ensures value { option_map view_of result ≡ option_map said.Demo (generated_in number.now) }
+    ensures number { IfSome result HasNumber }
+{
+    let number = natural(number.as_bytes(), GENERATED_DIGITS)?;
+    Some(Command::Demo {
+        number: number as u16,
     })
 }
 
@@ -198,6 +217,7 @@ fn has_names(command: &Command<'_>) -> bool
             certificate,
             ..
         } => are_three_names(network, plan, certificate),
+        Command::Demo { .. } => true,
     }
 }
 

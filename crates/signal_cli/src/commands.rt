@@ -4,9 +4,10 @@ ghost use Rattle.std.specs.Prelude.{◌≡◌, ◌++◌, true};
 ghost use Rattle.signal_cli.specs.Answers.{Deserves};
 ghost use Rattle.signal_cli.specs.inner.Causes.{Finds};
 ghost use Rattle.signal_cli.specs.Commands.{are_names, inputs_of, outputs_of};
-ghost use Rattle.signal_cli.specs.inner.CommandViews.{HasBudget, view_of};
+ghost use Rattle.signal_cli.specs.inner.CommandViews.{HasNumber, view_of};
 
 mod check;
+mod demo;
 mod encode;
 mod gap;
 mod point;
@@ -25,7 +26,7 @@ use std::alloc::Global;
 /// What the files of a command deserve. It reads them, each judged before the next is read, and writes nothing.
 pub fn answer<F: Shelf>(alloc: Global, command: Command<'_>, shelf: &mut F) -> Result<Reply, Fault>
     requires names { are_names (inputs_of (view_of command) ++ outputs_of (view_of command)) ≡ true }
-    requires budget { HasBudget command }
+    requires number { HasNumber command }
     ensures { Finds (Deserves (view_of command.entry)) result (F.state shelf.old) (F.state shelf.new) }
 {
     match command {
@@ -57,5 +58,6 @@ pub fn answer<F: Shelf>(alloc: Global, command: Command<'_>, shelf: &mut F) -> R
             plan,
             certificate,
         } => solve::solve(alloc, network, budget, plan, certificate, shelf),
+        Command::Demo { number } => demo::demo(alloc, number),
     }
 }

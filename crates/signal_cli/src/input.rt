@@ -5,7 +5,8 @@ ghost use Rattle.std.specs.Str.{bytes_eq};
 ghost use Rattle.traffic_model.specs.Runs.{IsAdmissiblePlan};
 ghost use Rattle.lo_program.specs.Compiled.{size_faults};
 ghost use Rattle.solve_core.specs.Solved.{solve_faults};
-ghost use Rattle.signal_cli.specs.Answers.{content_in, network, network_from, network_in, plan, plan_from, plan_in, planned_in, searchable, searchable_in, sized, sized_in, sized_planned_in};
+ghost use Rattle.signal_cli.specs.Answers as said;
+ghost use Rattle.signal_cli.specs.Answers.{content_in, network, network_from, network_in, plan, plan_from, plan_in, planned_in, searchable, searchable_in, searchable_text, sized, sized_in, sized_planned_in};
 ghost use Rattle.signal_cli.specs.inner.Causes.{Finds, Gives, ended_as};
 ghost use Rattle.limits.specs.declared.TheConstants.{MAX_FILE_BYTES};
 ghost use Rattle.signal_cli.specs.declared.fault.Fault.TheVariants as fault;
@@ -76,6 +77,27 @@ pub fn read_searchable<F: Shelf>(
     let named = read_network(alloc, shelf, name)?;
     refuse_unsearchable(&named, budget)?;
     Ok(named)
+}
+
+/// The network that a text spells, judged as a file that holds the text, for a search within a budget of nodes.
+pub fn searchable_of(alloc: Global, text: Vec<u8>, budget: u32) -> Result<NamedNet, Fault>
+    ensures value { Gives result (searchable_text text.items budget) }
+    ensures small { IfOk result (λ named. solve_faults named.net budget ≡ []) }
+{
+    let named = network_from(alloc, content_of(text))?;
+    refuse_unsearchable(&named, budget)?;
+    Ok(named)
+}
+
+/// A text as what a file would hold.
+fn content_of(text: Vec<u8>) -> Content
+    ensures { result ≡ said.content_of MAX_FILE_BYTES text.items }
+{
+    if text.len() as u64 > MAX_FILE_BYTES {
+        Content::TooLong
+    } else {
+        Content::Whole(Listed::of(text))
+    }
 }
 
 /// Refuses a network whose program is too large, or whose rows are too many for a budget of nodes.

@@ -2,6 +2,7 @@
 
 mod calls;
 mod certificates;
+mod demos;
 mod examples;
 mod networks;
 mod plan_texts;

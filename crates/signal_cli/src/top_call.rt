@@ -14,6 +14,7 @@ use shelf_io::{Shelf, Sink, Words};
 use std::alloc::Global;
 
 /// Runs the command that the words name, and answers the program's status.
+#[tactic(auto, unfolding(crate::specs::Accepted::IsExact))]
 pub fn run<F: Shelf, K: Sink>(alloc: Global, words: &Words, shelf: &mut F, out: &mut K) -> u8
     ensures keeps { Keeps (command_of words.now) (world (F.state shelf.old) (K.state out.old)) (world (F.state shelf.new) (K.state out.new)) result }
     ensures sound { IsSound (command_of words.now) (world (F.state shelf.old) (K.state out.old)) (world (F.state shelf.new) (K.state out.new)) result }

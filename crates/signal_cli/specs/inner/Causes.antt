@@ -24,6 +24,12 @@ Gives (Err Read) deserved = ⊥
 Gives (Ok x) deserved = deserved ≡ Ok x
 Gives (Err fault) deserved = deserved ≡ Err fault
 
+-- the same for an outcome that is deserved where nothing is read
+abbrev pub Makes : (Result Reply Fault → Type 0) → Result Reply Fault → Type 0
+Makes IsDeserved (Err Memory) = Unit {0}
+Makes IsDeserved (Err Read) = ⊥
+Makes IsDeserved outcome = IsDeserved outcome
+
 -- what the part of a command found that reads: what the files deserve, and the shelf is as it was; a read that failed and was
 -- counted, or a told file that is not there; or want of memory
 abbrev pub Finds : {X : Type 0} → (Files → Result X Fault → Type 0) → Result X Fault → ShelfState → ShelfState → Type 0

@@ -3,7 +3,7 @@ use Rattle.std.specs.Prelude.{◌≤◌}
 use Rattle.std.specs.Option.{option_copied}
 use Rattle.signal_cli.specs.Commands as said
 use Rattle.signal_cli.specs.declared.command.Command.{Command}
-use Rattle.signal_cli.specs.declared.command.Command.TheVariants.{Check, Encode, Gap, Point, Program, Replay, Solve, Trace}
+use Rattle.signal_cli.specs.declared.command.Command.TheVariants.{Check, Demo, Encode, Gap, Point, Program, Replay, Solve, Trace}
 
 -- the command with the bytes of its names
 abbrev pub view_of : Command → said.Command
@@ -15,8 +15,11 @@ view_of (Point network point) = said.Point network.now point.now
 view_of (Check network certificate) = said.Check network.now certificate.now
 view_of (Gap network plan certificate) = said.Gap network.now plan.now certificate.now
 view_of (Solve network budget plan certificate) = said.Solve network.now budget plan.now certificate.now
+view_of (Demo number) = said.Demo number
 
--- a search has a budget of at least one node
-abbrev pub HasBudget : Command → Type 0
-HasBudget (Solve network budget plan certificate) = 1 ≤ budget
-HasBudget command = Unit {0}
+-- what is known of the number among its words: a search has a budget of at least one node, and a generated network a number of at most
+-- four digits
+abbrev pub HasNumber : Command → Type 0
+HasNumber (Solve network budget plan certificate) = 1 ≤ budget
+HasNumber (Demo number) = number ≤ 9999
+HasNumber command = Unit {0}

@@ -53,7 +53,7 @@ fn reply_with(
 }
 
 /// What a search comes to, where the rows are not too many for the budget.
-fn search(alloc: Global, net: &Net, budget: u32) -> Result<Solved, Memory>
+pub fn search(alloc: Global, net: &Net, budget: u32) -> Result<Solved, Memory>
     requires valid { IsValid net.now }
     requires budget { 1 ≤ budget }
     requires small { solve_faults net.now budget ≡ [] }

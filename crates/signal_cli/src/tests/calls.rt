@@ -34,7 +34,7 @@ const RUNS: &[(&[&str], u8, &str)] = &[
     (&["check", "crossing"], 2, "words\n"),
     (&["gap", "crossing", "plan"], 2, "words\n"),
     (&["solve", "crossing", "1", "out"], 2, "words\n"),
-    (&["demo", "7"], 2, "words\n"),
+    (&["study", "7"], 2, "words\n"),
     (&["replay", "nothing"], 6, "read fault\n"),
     (&["replay", "nothing", "plan"], 6, "read fault\n"),
     (&["replay", "crossing", "nothing"], 6, "read fault\n"),

@@ -1,3 +1,5 @@
+use Rattle.signal_cli.specs.Answers.{DemoGives}
+use Rattle.signal_cli.proofs.Making.{made_found}
 use Rattle.signal_cli.proofs.commands.answer.Goals as goal
 
 pub returns-in-Replay : goal.returns-in-Replay
@@ -23,3 +25,6 @@ returns-in-Gap g c = rw c.in-Gap.is c.gap.ensures
 
 pub returns-in-Solve : goal.returns-in-Solve
 returns-in-Solve g c = rw c.in-Solve.is c.solve.ensures
+
+pub returns-in-Demo : goal.returns-in-Demo
+returns-in-Demo g c = rw c.in-Demo.is (made_found (DemoGives c.in-Demo.number) c.demo.result (g.F.Shelf.state c.args.shelf.now) c.demo.ensures)
