@@ -35,9 +35,8 @@ pub demand_refused : (k : ℕ) (pieces : List Piece) (steps : ℕ) (e : DemandFa
 unfolding spread
 demand_refused k pieces steps demand.Memory refused = inr refl
 demand_refused k pieces steps (Range piece) (inl is) = inl (refused_of_link k (Range piece) (faults_of pieces steps) (rates_of pieces steps) is)
-demand_refused k pieces steps (Range piece) (inr wanting) = absurd (cc)
 demand_refused k pieces steps (Heavy step) (inl is) = inl (refused_of_link k (Heavy step) (faults_of pieces steps) (rates_of pieces steps) is)
-demand_refused k pieces steps (Heavy step) (inr wanting) = absurd (cc)
+demand_refused k pieces steps e (inr wanting) = inr (let same : e ≡ demand.Memory = cc in ap (λ e. Err (fault_of k e)) same)
 
 -- where there is no piece, no step is heavy
 none_of_none : (steps : ℕ) → faults_of [] steps ≡ []

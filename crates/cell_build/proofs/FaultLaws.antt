@@ -1,5 +1,5 @@
 -- What a network without a fault keeps, rule by rule.
-use Rattle.std.proofs.Common.{◌≡◌, inl, inr, ℕ, ◌+◌, ◌<◌, ◌≤◌, true, false, not, ◌&&◌, ◌||◌, nat_lt, ◌==◌, List, [], ◌++◌, length, map, take, get_or, Some, slice_index_or, All, sym, ◌∙◌}
+use Rattle.std.proofs.Common.{◌≡◌, inl, inr, ℕ, ◌+◌, ◌<◌, ◌≤◌, true, false, not, ◌&&◌, ◌||◌, nat_lt, ◌==◌, List, [], length, map, take, get_or, Some, slice_index_or, All, sym, ◌∙◌, ◌≢◌, ◌∷◌, Option, None, Ok, refl, arith}
 use Rattle.std.specs.List.{list_any}
 use Rattle.std.specs.Str.{bytes_eq}
 use Rattle.std.proofs.lemmas.Bool.{or_parts, not-false, eqb-true, ltb-false, cases_lt, lt-ltb, false≢true}
@@ -8,24 +8,28 @@ use Rattle.network_file.specs.declared.raw.RawNet.{RawNet}
 use Rattle.network_file.specs.declared.raw.RawLink.{RawLink}
 use Rattle.network_file.specs.declared.raw.RawPhase.{RawPhase}
 use Rattle.demand.specs.Spread.{faults_of as demand_faults, heavy_at, rate_at, rates_of}
-use Rattle.refusals.specs.Faults.{per_item}
-use Rattle.cell_build.specs.Link.{cells_below, gate_of, signal_named}
+use Rattle.refusals.specs.Faults.{per_item, unless}
+use Rattle.cell_build.specs.Link.{cells_below, gate_of, initial_at, signal_named}
 use Rattle.cell_build.specs.Names.{is_unknown, link_names, raw_link, no_link, no_phase, no_signal, phase_names, raw_phase, signal_names, raw_signal}
-use Rattle.cell_build.specs.Refusals.{are_apart, demand, faults_of, fed, feeders, initial_in, initial_units, is_empty, itself, leads_to, many_cells, open_merge, out_both, phase, twice_turn, unknown_gate, unknown_greens_at, unknown_greens_of, unknown_link, unknown_next_at, unknown_nexts_of, unknown_phase, unknown_signal, unknown_start, unknown_start_at, unknown_to, unknown_turn_at}
-use Rattle.cell_build.specs.declared.fault.BuildFault.{BuildFault}
+use Rattle.cell_build.specs.Refusals.{are_apart, demand, faults_of, fed, feeders, initial_in, initial_units, is_empty, itself, leads_to, many_cells, open_merge, out_both, phase, twice_turn, unknown_gate, unknown_greens_at, unknown_greens_of, unknown_link, unknown_next_at, unknown_nexts_of, unknown_phase, unknown_signal, unknown_start, unknown_start_at, unknown_to, unknown_turn_at, unknown_signal_at}
 use Rattle.cell_build.specs.declared.fault.BuildFault.TheVariants.{UnknownLink, UnknownSignal, UnknownPhase, Itself, TwiceTurn, Fed, OpenMerge, Initial, Cells, Demand, Phase}
 use Rattle.demand.specs.declared.fault.DemandFault.TheVariants.{Heavy}
 use Rattle.cell_build.specs.declared.fault.PhaseAt.TheVariants.{Green, Start, Next}
 use Rattle.listed.proofs.JoinLaws.{append_none, map_none}
-use Rattle.refusals.proofs.FirstFaults.{where_none}
+use Rattle.refusals.proofs.FirstFaults.{where_none, unless_fine}
 use Rattle.refusals.proofs.Items.{per_item_none}
 use Rattle.demand.proofs.DemandLaws.{length-rates_of, slice_index-rates_of}
+use Rattle.std.specs.Prelude.{⊤}
+use Rattle.std.proofs.lemmas.List.{get_or_default}
+use Rattle.network_file.specs.declared.raw.RawSignal.{RawSignal}
 
 -- no rule has a place that breaks it
 pub record HasNoFault (raw : RawNet) : Type 0 where
   pub unknown_link : unknown_link raw.links ≡ []
   pub unknown_signal : unknown_signal raw.signals raw.links ≡ []
-  pub unknown_phase : unknown_phase raw.signals raw.links ≡ []
+  pub unknown_greens : per_item raw.links (unknown_greens_at raw.signals) ≡ []
+  pub unknown_starts : per_item raw.signals unknown_start_at ≡ []
+  pub unknown_nexts : per_item raw.signals unknown_nexts_of ≡ []
   pub out_both : out_both raw.links ≡ []
   pub itself : itself raw.links ≡ []
   pub twice_turn : twice_turn raw.links ≡ []
@@ -37,10 +41,13 @@ pub record HasNoFault (raw : RawNet) : Type 0 where
   pub phase : phase raw.signals ≡ []
 
 pub has_no_fault : (raw : RawNet) → faults_of raw ≡ [] → HasNoFault raw
+unfolding unknown_phase
 has_no_fault raw none =
     let first = append_none (unknown_link raw.links) _ none in
     let second = append_none (unknown_signal raw.signals raw.links) _ first.1 in
     let third = append_none (unknown_phase raw.signals raw.links) _ second.1 in
+    let greens = append_none (per_item raw.links (unknown_greens_at raw.signals)) _ third.0 in
+    let starts = append_none (per_item raw.signals unknown_start_at) (per_item raw.signals unknown_nexts_of) greens.1 in
     let fourth = append_none (out_both raw.links) _ third.1 in
     let fifth = append_none (itself raw.links) _ fourth.1 in
     let sixth = append_none (twice_turn raw.links) _ fifth.1 in
@@ -52,7 +59,9 @@ has_no_fault raw none =
     record {
       unknown_link = first.0;
       unknown_signal = second.0;
-      unknown_phase = third.0;
+      unknown_greens = greens.0;
+      unknown_starts = starts.0;
+      unknown_nexts = starts.1;
       out_both = fourth.0;
       itself = fifth.0;
       twice_turn = sixth.0;
@@ -93,45 +102,26 @@ signal_is_known raw k name fine within gated =
     where_none (is_unknown (signal_names raw.signals) name) (UnknownSignal k) (rw gated at here)
 
 -- the phases that are named are there
-abbrev unknown_greens_in : RawNet → List BuildFault
-unknown_greens_in raw = per_item raw.links (unknown_greens_at raw.signals)
-
-abbrev unknown_starts_in : RawNet → List BuildFault
-unknown_starts_in raw = per_item raw.signals unknown_start_at
-
-abbrev unknown_nexts_in : RawNet → List BuildFault
-unknown_nexts_in raw = per_item raw.signals unknown_nexts_of
-
-phases_are_known : (raw : RawNet) → HasNoFault raw → (unknown_greens_in raw ≡ []) × (unknown_starts_in raw ≡ []) × (unknown_nexts_in raw ≡ [])
-unfolding unknown_phase
-phases_are_known raw fine =
-    let outer = append_none (unknown_greens_in raw) (unknown_starts_in raw ++ unknown_nexts_in raw) fine.unknown_phase in
-    let inner = append_none (unknown_starts_in raw) (unknown_nexts_in raw) outer.1 in
-    (outer.0, inner.0, inner.1)
-
-pub green_is_known : (raw : RawNet) (k j : ℕ) (name : List ℕ) → HasNoFault raw → k < length raw.links → (raw_link raw.links k).signal ≡ Some name → j < length (raw_link raw.links k).greens →
-    is_unknown (phase_names (signal_named raw.signals name)) (slice_index_or (raw_link raw.links k).greens j []) ≡ false
-green_is_known raw k j name fine within gated there =
+pub greens_are_known : (raw : RawNet) (k : ℕ) (name : List ℕ) → HasNoFault raw → k < length raw.links → (raw_link raw.links k).signal ≡ Some name →
+    All (λ green. is_unknown (phase_names (signal_named raw.signals name)) green ≡ false) (raw_link raw.links k).greens
+greens_are_known raw k name fine within gated = λ j d there.
     let link = raw_link raw.links k in
-    let here : unknown_greens_of raw.signals k link.signal link.greens ≡ [] =
-    per_item_none raw.links _ k no_link (phases_are_known raw fine).0 within in
-    where_none (is_unknown (phase_names (signal_named raw.signals name)) (slice_index_or link.greens j [])) (UnknownPhase (Green k j)) (per_item_none link.greens _ j [] (rw gated at here) there)
+    let here : unknown_greens_of raw.signals k link.signal link.greens ≡ [] = per_item_none raw.links _ k no_link fine.unknown_greens within in
+    where_none (is_unknown (phase_names (signal_named raw.signals name)) (get_or link.greens j d)) (UnknownPhase (Green k j)) (per_item_none link.greens _ j d (rw gated at here) there)
 
 pub start_is_known : (raw : RawNet) (s : ℕ) (name : List ℕ) → HasNoFault raw → s < length raw.signals → (raw_signal raw.signals s).start ≡ Some name → is_unknown (phase_names (raw_signal raw.signals s)) name ≡ false
 start_is_known raw s name fine within starts =
     let signal = raw_signal raw.signals s in
-    let here : unknown_start s signal signal.start ≡ [] =
-    per_item_none raw.signals _ s no_signal (phases_are_known raw fine).1 within in
+    let here : unknown_start s signal signal.start ≡ [] = per_item_none raw.signals _ s no_signal fine.unknown_starts within in
     where_none (is_unknown (phase_names signal) name) (UnknownPhase (Start s)) (rw starts at here)
 
-pub next_is_known : (raw : RawNet) (s p j : ℕ) → HasNoFault raw → s < length raw.signals → p < length (raw_signal raw.signals s).phases → j < length (raw_phase (raw_signal raw.signals s) p).next →
-    is_unknown (phase_names (raw_signal raw.signals s)) (slice_index_or (raw_phase (raw_signal raw.signals s) p).next j []) ≡ false
-next_is_known raw s p j fine within inner there =
+pub nexts_are_known : (raw : RawNet) (s p : ℕ) → HasNoFault raw → s < length raw.signals → p < length (raw_signal raw.signals s).phases →
+    All (λ name. is_unknown (phase_names (raw_signal raw.signals s)) name ≡ false) (raw_phase (raw_signal raw.signals s) p).next
+nexts_are_known raw s p fine within inner = λ j d there.
     let signal = raw_signal raw.signals s in
-    let phase = raw_phase signal p in
-    let here : per_item phase.next (unknown_next_at (phase_names signal) s p) ≡ [] =
-    per_item_none signal.phases _ p no_phase (per_item_none raw.signals _ s no_signal (phases_are_known raw fine).2 within) inner in
-    where_none (is_unknown (phase_names signal) (slice_index_or phase.next j [])) (UnknownPhase (Next s p j)) (per_item_none phase.next _ j [] here there)
+    let next = (raw_phase signal p).next in
+    let here : per_item next (unknown_next_at (phase_names signal) s p) ≡ [] = per_item_none signal.phases _ p no_phase (per_item_none raw.signals _ s no_signal fine.unknown_nexts within) inner in
+    where_none (is_unknown (phase_names signal) (get_or next j d)) (UnknownPhase (Next s p j)) (per_item_none next _ j d here there)
 
 -- no link leads to itself
 pub leads_elsewhere : (raw : RawNet) (k : ℕ) → HasNoFault raw → k < length raw.links → leads_to (raw_link raw.links k) (raw_link raw.links k).name ≡ false
@@ -159,23 +149,21 @@ pub feeders_are_apart : (raw : RawNet) (k : ℕ) → HasNoFault raw → k < leng
 unfolding open_merge
 feeders_are_apart raw k fine within = not-false (are_apart (map (gate_of raw.signals) (feeders raw.links (raw_link raw.links k).name))) (where_none _ (OpenMerge k) (per_item_none raw.links _ k no_link fine.open_merge within))
 
--- where no number is above a limit, each is at most the limit
-pub none_above : (limit : ℕ) (units : List ℕ) → list_any (nat_lt limit) units ≡ false → All (λ n. n ≤ limit) units
-none_above limit units light k d within = elim (cases_lt limit (get_or units k d)) [
-  | inl heavy ↦ absurd (false≢true (sym light ∙ list_any_at (nat_lt limit) units k d within (lt-ltb limit (get_or units k d) heavy)))
-  | inr le ↦ le
-]
-
--- one number of units for each cell, none above the storage
-pub initial_fits : (raw : RawNet) (k : ℕ) (units : List ℕ) → HasNoFault raw → k < length raw.links → (raw_link raw.links k).initial ≡ Some units →
-    (length units ≡ (raw_link raw.links k).cells) × All (λ n. n ≤ (raw_link raw.links k).store) units
-unfolding initial_units
-initial_fits raw k units fine within starts =
-    let link = raw_link raw.links k in
-    let here : initial_in k link link.initial ≡ [] = per_item_none raw.links _ k no_link fine.initial_units within in
+-- the units at step 0 are one number for each cell, none above the storage
+initial_has_room : (k : ℕ) (link : RawLink) (initial : Option (List ℕ)) (i : ℕ) → initial_in k link initial ≡ [] → i < link.cells → initial_at initial i ≤ link.store
+initial_has_room k link None i none inner = omega arith
+initial_has_room k link (Some units) i none inner =
     let parts = or_parts (not (length units == link.cells)) (list_any (nat_lt link.store) units)
-    (where_none (not (length units == link.cells) || list_any (nat_lt link.store) units) (Initial k) (rw starts at here)) in
-    (eqb-true (length units) link.cells (not-false (length units == link.cells) parts.0), none_above link.store units parts.1)
+    (where_none (not (length units == link.cells) || list_any (nat_lt link.store) units) (Initial k) none) in
+    let count : length units ≡ link.cells = eqb-true (length units) link.cells (not-false (length units == link.cells) parts.0) in
+    elim (cases_lt link.store (get_or units i 0)) [
+      | inl heavy ↦ absurd (false≢true (sym parts.1 ∙ list_any_at (nat_lt link.store) units i 0 (omega arith) (lt-ltb link.store (get_or units i 0) heavy)))
+      | inr le ↦ le
+    ]
+
+pub has_room : (raw : RawNet) (k i : ℕ) → HasNoFault raw → k < length raw.links → i < (raw_link raw.links k).cells → initial_at (raw_link raw.links k).initial i ≤ (raw_link raw.links k).store
+unfolding initial_units
+has_room raw k i fine within inner = initial_has_room k (raw_link raw.links k) (raw_link raw.links k).initial i (per_item_none raw.links _ k no_link fine.initial_units within) inner
 
 -- at most 256 cells
 pub cells_are_few : (raw : RawNet) → HasNoFault raw → cells_below raw.links (length raw.links) ≤ 256
@@ -211,3 +199,16 @@ phase_is_ruled raw s p fine within inner =
     let outer = or_parts (nat_lt phase.max phase.min || is_empty phase.next) (list_any (bytes_eq phase.name) phase.next) here in
     let first = or_parts (nat_lt phase.max phase.min) (is_empty phase.next) outer.0 in
     record { limits = ltb-false phase.max phase.min first.0; followed = first.1; not_by_itself = outer.1 }
+
+-- a name without fault is that of a signal
+some_signal : (signals : List RawSignal) (k : ℕ) (signal : Option (List ℕ)) → unknown_gate (signal_names signals) k signal ≡ [] → signal ≢ None → 0 < length signals
+some_signal signals k None fine some = absurd (some refl)
+some_signal [] k (Some name) fine some = absurd (cc)
+some_signal (signal ∷ signals) k (Some name) fine some = omega arith
+
+-- each link with a signal tells of one
+pub signals_are_there : (signals : List RawSignal) (links : List RawLink) (judged : ⊤) → Ok judged ≡ unless (unknown_signal signals links) judged → All (λ (link : RawLink). link.signal ≢ None → 0 < length signals) links
+unfolding unknown_signal
+signals_are_there signals links judged fine = λ k d within.
+    rw (get_or_default links k d no_link within)
+    (some_signal signals k (raw_link links k).signal (per_item_none links (unknown_signal_at (signal_names signals)) k no_link (unless_fine _ judged judged fine) within))

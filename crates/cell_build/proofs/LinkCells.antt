@@ -1,5 +1,10 @@
--- What each cell of a link keeps, where the link is in range, its demand is light and its units at step 0 fit.
-use Rattle.std.proofs.Common.{◌≡◌, inl, inr, ℕ, ◌+◌, ◌-◌, ◌<◌, ◌≤◌, Bool, if◌then◌else◌, Option, None, length, refl, ap, ◌∙◌, arith}
+-- The cells of a link: lists with an element for its queue, where there is demand, and one for each of its road cells; what each
+-- cell keeps, where the link is in range, its demand is light and its units at step 0 fit; and its cells behind others.
+use Rattle.std.proofs.Common.{◌≡◌, ℕ, zero, suc, ◌+◌, ◌-◌, ◌<◌, ◌≤◌, List, [], ◌∷◌, ◌++◌, length, get_or, refl, ap, ◌∙◌, arith, inl, inr, Bool, if◌then◌else◌, Option, None, append_assoc}
+use Rattle.listed.specs.Below.{table_of}
+use Rattle.listed.proofs.TableLaws.{length-table_of, get_or-table_of}
+use Rattle.demand.specs.declared.piece.Piece.{Piece}
+use Rattle.cell_build.specs.Link.{queue_count, where_demand, cell_count, cells_of_link, initial_at, queue_of, road_of, road_to, queue_to}
 use Rattle.std.proofs.lemmas.Bool.{cases_lt, lt-ltb, le-ltb}
 use Rattle.ct_base.specs.Access.{cell_of, no_cell}
 use Rattle.ct_base.specs.Validity.{IsBetween, IsOfKind, IsQueue, IsRoad}
@@ -8,12 +13,34 @@ use Rattle.ct_base.specs.declared.cell.Gate.{Gate}
 use Rattle.ct_base.specs.declared.cell.Kind.TheVariants.{Queue, Road}
 use Rattle.ct_base.specs.declared.cell.Out.{Out}
 use Rattle.ct_base.specs.declared.cell.Out.TheVariants.{To}
-use Rattle.listed.proofs.TableLaws.{length-table_of, get_or-table_of}
 use Rattle.network_file.specs.Range.{IsLinkInRange}
 use Rattle.network_file.specs.declared.raw.RawLink.{RawLink}
 use Rattle.demand.specs.Spread.{rate_at, rates_of}
-use Rattle.cell_build.specs.Link.{cell_count, cells_of_link, initial_at, queue_count, queue_of, road_of, road_to}
-use Rattle.cell_build.proofs.WithQueue.{length-with_queue, queue_count-le, with_queue-first, with_queue-road}
+use Rattle.std.proofs.lemmas.List.{length-append}
+use Rattle.cell_build.specs.inner.Queues.{queue_demand, queue_with}
+
+-- how many elements there are
+pub length-with_queue : {X : Type 0} (pieces : List Piece) (queue : X) (n : ℕ) (f : ℕ → X) → length (where_demand pieces queue ++ table_of n f) ≡ queue_count pieces + n
+length-with_queue [] queue n f = omega (arith, length-table_of n f)
+length-with_queue (piece ∷ pieces) queue n f = omega (arith, length-table_of n f)
+
+-- that of the queue stands first
+pub with_queue-first : {X : Type 0} (pieces : List Piece) (queue : X) (n : ℕ) (f : ℕ → X) (j : ℕ) (d : X) → j < queue_count pieces → get_or (where_demand pieces queue ++ table_of n f) j d ≡ queue
+with_queue-first [] queue n f j d within = absurd (omega arith)
+with_queue-first (piece ∷ pieces) queue n f zero d within = refl
+with_queue-first (piece ∷ pieces) queue n f (suc j) d within = absurd (omega arith)
+
+-- those of the road cells stand behind it
+pub with_queue-road : {X : Type 0} (pieces : List Piece) (queue : X) (n : ℕ) (f : ℕ → X) (j : ℕ) (d : X) → queue_count pieces ≤ j → j < queue_count pieces + n →
+    get_or (where_demand pieces queue ++ table_of n f) j d ≡ f (j - queue_count pieces)
+with_queue-road [] queue n f j d after within = get_or-table_of n f j d (omega arith) ∙ ap f (omega arith)
+with_queue-road (piece ∷ pieces) queue n f zero d after within = absurd (omega arith)
+with_queue-road (piece ∷ pieces) queue n f (suc j) d after within = get_or-table_of n f j d (omega arith) ∙ ap f (omega arith)
+
+-- there is at most one queue
+pub queue_count-le : (pieces : List Piece) → queue_count pieces ≤ 1
+queue_count-le [] = omega arith
+queue_count-le (piece ∷ pieces) = omega arith
 
 -- a link whose demand is light in each step, and whose units at step 0 have room in each cell
 pub record IsFit (steps : ℕ) (link : RawLink) : Type 0 where
@@ -76,16 +103,6 @@ pub length-cells_of_link : (steps first : ℕ) (last : Out) (gate : Option Gate)
 unfolding cells_of_link
 length-cells_of_link steps first last gate link = length-with_queue link.pieces _ link.cells _
 
-queue_at : (steps first : ℕ) (last : Out) (gate : Option Gate) (link : RawLink) (j : ℕ) → j < queue_count link.pieces →
-    cell_of (cells_of_link steps first last gate link) j ≡ queue_of steps (first + queue_count link.pieces) link
-unfolding cells_of_link
-queue_at steps first last gate link j within = with_queue-first link.pieces _ link.cells _ j no_cell within
-
-road_at : (steps first : ℕ) (last : Out) (gate : Option Gate) (link : RawLink) (j : ℕ) → queue_count link.pieces ≤ j → j < cell_count link →
-    cell_of (cells_of_link steps first last gate link) j ≡ road_of (first + queue_count link.pieces) last gate link (j - queue_count link.pieces)
-unfolding cells_of_link
-road_at steps first last gate link j after within = with_queue-road link.pieces _ link.cells _ j no_cell after within
-
 -- the queue of a link is its first cell, and not its last
 queue_is_link_cell : (steps first : ℕ) (last : Out) (gate : Option Gate) (link : RawLink) (j : ℕ) → IsFit steps link → j < queue_count link.pieces →
     IsLinkCell steps first last gate link j (queue_of steps (first + queue_count link.pieces) link)
@@ -122,8 +139,42 @@ road_is_link_cell steps first last gate link j fit after within =
 -- cell j of a link
 pub cell_of-cells_of_link : (steps first : ℕ) (last : Out) (gate : Option Gate) (link : RawLink) (j : ℕ) → IsFit steps link → j < cell_count link →
     IsLinkCell steps first last gate link j (cell_of (cells_of_link steps first last gate link) j)
+unfolding cells_of_link
 cell_of-cells_of_link steps first last gate link j fit within =
+    let first_road = first + queue_count link.pieces in
     elim (cases_lt j (queue_count link.pieces)) [
-      | inl before ↦ rw (queue_at steps first last gate link j before) (queue_is_link_cell steps first last gate link j fit before)
-      | inr after ↦ rw (road_at steps first last gate link j after within) (road_is_link_cell steps first last gate link j fit after within)
+      | inl before ↦
+          rw (with_queue-first link.pieces (queue_of steps first_road link) link.cells (road_of first_road last gate link) j no_cell before) (queue_is_link_cell steps first last gate link j fit before)
+      | inr after ↦
+          rw (with_queue-road link.pieces (queue_of steps first_road link) link.cells (road_of first_road last gate link) j no_cell after within) (road_is_link_cell steps first last gate link j fit after within)
     ]
+
+-- the queue of a demand that pieces spread, behind some cells
+queue_with-demand : (steps first : ℕ) (link : RawLink) (pieces : List Piece) → queue_with (first + 1) (queue_demand steps pieces) link ≡ where_demand pieces (queue_to (To (first + queue_count pieces)) (rates_of pieces steps) link)
+queue_with-demand steps first link [] = refl
+queue_with-demand steps first link (piece ∷ pieces) = refl
+
+length-where_demand : (pieces : List Piece) (queue : Cell) → length (where_demand pieces queue) ≡ queue_count pieces
+length-where_demand [] queue = refl
+length-where_demand (piece ∷ pieces) queue = refl
+
+-- the cells with the queue, and how many stand there
+queued_is : (steps : ℕ) (demand : Option (List ℕ)) (link : RawLink) (before queued : List Cell) → demand ≡ queue_demand steps link.pieces → queued ≡ before ++ queue_with (length before + 1) demand link →
+    queued ≡ before ++ where_demand link.pieces (queue_to (To (length before + queue_count link.pieces)) (rates_of link.pieces steps) link)
+queued_is steps demand link before queued is queue =
+    queue ∙ ap (λ units. before ++ queue_with (length before + 1) units link) is ∙ ap (λ queue. before ++ queue) (queue_with-demand steps (length before) link link.pieces)
+
+pub length-queued : (steps : ℕ) (demand : Option (List ℕ)) (link : RawLink) (before queued : List Cell) → demand ≡ queue_demand steps link.pieces →
+    queued ≡ before ++ queue_with (length before + 1) demand link → length queued ≡ length before + queue_count link.pieces
+length-queued steps demand link before queued is queue =
+    ap length (queued_is steps demand link before queued is queue) ∙ length-append before _ ∙ ap (λ n. length before + n) (length-where_demand link.pieces _)
+
+-- the cells of a link behind the cells before it, with the queue of its demand
+pub cells_behind : (steps : ℕ) (demand : Option (List ℕ)) (last : Out) (gate : Option Gate) (link : RawLink) (before queued all : List Cell) → demand ≡ queue_demand steps link.pieces →
+    queued ≡ before ++ queue_with (length before + 1) demand link → all ≡ queued ++ table_of link.cells (road_of (length queued) last gate link) →
+    all ≡ before ++ cells_of_link steps (length before) last gate link
+unfolding cells_of_link
+cells_behind steps demand last gate link before queued all is queue road =
+    road ∙ ap (λ n. queued ++ table_of link.cells (road_of n last gate link)) (length-queued steps demand link before queued is queue)
+    ∙ ap (λ cells. cells ++ table_of link.cells (road_of (length before + queue_count link.pieces) last gate link)) (queued_is steps demand link before queued is queue)
+    ∙ append_assoc before _ _

@@ -16,12 +16,10 @@ use Rattle.cell_build.specs.Link.{cell_count, cells_below, first_road, gate_of, 
 use Rattle.cell_build.specs.Names.{link_names, raw_link, no_signal, number_of}
 use Rattle.cell_build.specs.Refusals.{faults_of, leads_to}
 use Rattle.cell_build.proofs.FaultLaws.{turn_of, HasNoFault, cells_are_few, has_no_fault}
-use Rattle.cell_build.proofs.LeadLaws.{LeadsInto, branch_to, branches_differ, named_within, target_at, targets_are_roads}
-use Rattle.cell_build.proofs.LinkCells.{IsLinkCell}
-use Rattle.cell_build.proofs.MergeLaws.{fed_has_no_queue, feeders_apart}
+use Rattle.cell_build.proofs.LeadLaws.{LeadsInto, branch_to, branches_differ, named_within, target_at, targets_are_roads, fed_has_no_queue, feeders_apart}
+use Rattle.cell_build.proofs.LinkCells.{IsLinkCell, queue_count-le}
 use Rattle.cell_build.proofs.PlaceLaws.{IsAt, cell_is_link_cell, cells_of, length-cells_of, one_place, place_of, place_within, road_place}
 use Rattle.cell_build.proofs.SignalLaws.{gate_of_link_is_gate, signal_is_signal, signals_of}
-use Rattle.cell_build.proofs.WithQueue.{queue_count-le}
 
 -- a network that is read and has no fault
 pub record IsSound (raw : RawNet) : Type 0 where

@@ -1,17 +1,52 @@
--- Where the cells of a network lie: each is one cell of one link.
-use Rattle.std.proofs.Common.{◌≡◌, inl, inr, ℕ, ◌+◌, ◌<◌, ◌≤◌, List, length, Option, Some, None, refl, ap, ◌∙◌, arith}
+-- Where the cells of a network lie: the first road cells by number, each cell as one cell of one link, and the cells one link
+-- at a time.
+use Rattle.std.proofs.Common.{◌≡◌, ℕ, ◌+◌, ◌<◌, ◌≤◌, List, length, get_or, Option, Some, None, IfSome, unwrap_or, sym, ap, ◌∙◌, arith, inl, inr, refl, ◌≢◌, [], ◌++◌}
+use Rattle.std.proofs.lemmas.List.{get_or_read}
+use Rattle.listed.proofs.SumLaws.{sum_below-fewer, sum_below-suc, sum_below-zero}
+use Rattle.listed.proofs.TableLaws.{get_or-table_of, length-table_of}
+use Rattle.network_file.specs.declared.raw.RawLink.{RawLink}
+use Rattle.cell_build.specs.inner.Firsts.{AreFirsts}
+use Rattle.cell_build.specs.Link.{cell_count, cells_below, first_road, queue_count, cells_at, cells_of_links, gate_of, out_by, cells_of_link}
+use Rattle.cell_build.specs.Names.{raw_link, no_link}
 use Rattle.std.proofs.lemmas.Bool.{cases_order}
 use Rattle.ct_base.specs.Access.{cell_of, no_cell}
 use Rattle.ct_base.specs.declared.cell.Cell.{Cell}
 use Rattle.network_file.specs.Range.{IsInRange, IsLinkInRange}
 use Rattle.network_file.specs.declared.raw.RawNet.{RawNet}
-use Rattle.network_file.specs.declared.raw.RawLink.{RawLink}
-use Rattle.cell_build.specs.Link.{cell_count, cells_at, cells_below, cells_of_links, first_road, gate_of, initial_at, out_by, queue_count}
-use Rattle.cell_build.specs.Names.{raw_link}
-use Rattle.cell_build.proofs.FaultLaws.{HasNoFault, initial_fits, step_is_light}
-use Rattle.listed.proofs.JoinLaws.{get_or-join_below, length-join_below, part_of}
-use Rattle.cell_build.proofs.FirstLaws.{cells_below-fewer, cells_below-suc, next_is_few}
+use Rattle.cell_build.proofs.FaultLaws.{HasNoFault, has_room, step_is_light, cells_are_few, signals_are_there}
+use Rattle.listed.proofs.JoinLaws.{get_or-join_below, length-join_below, part_of, join_below-suc}
 use Rattle.cell_build.proofs.LinkCells.{IsFit, IsLinkCell, cell_of-cells_of_link, length-cells_of_link}
+use Rattle.listed.specs.Below.{join_below}
+
+-- a place that was found, or the first one, is that of a link, whose first road cell stands there
+pub found_first : (links : List RawLink) (firsts : List ℕ) (found : Option ℕ) → AreFirsts links firsts → IfSome found (λ place. place < length links) →
+    (unwrap_or found 0 < length firsts) × (get_or firsts (unwrap_or found 0) 0 ≡ first_road links (unwrap_or found 0))
+found_first links firsts None are within = (rw are.each (rw length-table_of are.some), rw are.each (get_or-table_of (length links) (first_road links) 0 0 are.some))
+found_first links firsts (Some place) are within = (rw are.each (rw length-table_of within), rw are.each (get_or-table_of (length links) (first_road links) place 0 within))
+
+-- no link has no cells
+pub below_none : (links : List RawLink) → 0 ≡ cells_below links 0
+below_none links = sym (sum_below-zero (λ m. cell_count (raw_link links m)))
+
+-- the cells before the next link are those before the link and its own
+pub cells_below-suc : (links : List RawLink) (k : ℕ) → cells_below links (k + 1) ≡ cells_below links k + cell_count (raw_link links k)
+cells_below-suc links k = sum_below-suc k (λ m. cell_count (raw_link links m))
+
+pub cells_below-fewer : (links : List RawLink) (m n : ℕ) → m ≤ n → cells_below links m ≤ cells_below links n
+cells_below-fewer links m n le = sum_below-fewer m n (λ m. cell_count (raw_link links m)) le
+
+-- they are not more than all cells
+pub next_is_few : (links : List RawLink) (k : ℕ) → k < length links → cells_below links k + cell_count (raw_link links k) ≤ cells_below links (length links)
+next_is_few links k within = omega (arith, cells_below-suc links k, cells_below-fewer links (k + 1) (length links) (omega arith))
+
+-- the link at hand: its first road cell, and the cells behind it
+pub at_hand : (links : List RawLink) (k : ℕ) (link : RawLink) (queues : ℕ) → k < length links → link ≡ get_or links k link → queues ≡ queue_count link.pieces →
+    (cells_below links k + queues ≡ first_road links k) × (cells_below links k + (queues + link.cells) ≡ cells_below links (k + 1)) × (cells_below links (k + 1) ≤ cells_below links (length links))
+at_hand links k link queues within is count =
+    let item : link ≡ raw_link links k = get_or_read links k link within is no_link in
+    let here : queues ≡ queue_count (raw_link links k).pieces = count ∙ ap (λ link. queue_count link.pieces) item in
+    let cells : link.cells ≡ (raw_link links k).cells = ap (λ link. link.cells) item in
+    (omega arith, omega (arith, cells_below-suc links k), cells_below-fewer links (k + 1) (length links) (omega arith))
 
 -- cell j of the network is cell i of link k
 pub record IsAt (links : List RawLink) (j k i : ℕ) : Type 0 where
@@ -63,22 +98,12 @@ length-cells_before raw k = length-join_below k (cells_at raw.steps raw.signals 
 pub length-cells_of : (raw : RawNet) → length (cells_of raw) ≡ cells_below raw.links (length raw.links)
 length-cells_of raw = length-cells_before raw (length raw.links)
 
--- the units at step 0 have room where there is no fault
-has_room : (raw : RawNet) (k i : ℕ) → IsInRange raw → HasNoFault raw → k < length raw.links → i < (raw_link raw.links k).cells → initial_at (raw_link raw.links k).initial i ≤ (raw_link raw.links k).store
-has_room raw k i in_range fine within inner = by_initial (raw_link raw.links k).initial refl
-  where
-    by_initial : (initial : Option (List ℕ)) → (raw_link raw.links k).initial ≡ initial → initial_at initial i ≤ (raw_link raw.links k).store
-    by_initial None starts = omega arith
-    by_initial (Some units) starts =
-        let fits = initial_fits raw k units fine within starts in
-        fits.1 i 0 (rw fits.0 inner)
-
 -- link k is fit
 pub link_is_fit : (raw : RawNet) (k : ℕ) → IsInRange raw → HasNoFault raw → k < length raw.links → IsFit raw.steps (raw_link raw.links k)
 link_is_fit raw k in_range fine within = record {
   in_range = in_range.each_link k _ within;
   light = λ t there. step_is_light raw k t fine within there;
-  room = λ i inner. has_room raw k i in_range fine within inner;
+  room = λ i inner. has_room raw k i fine within inner;
 }
 
 -- cell j keeps what a cell of its link keeps
@@ -99,3 +124,31 @@ road_place raw k in_range within = record {
   cell = let limits : IsLinkInRange (raw_link raw.links k) = in_range.each_link k _ within in omega (arith, limits.cells);
   is = refl;
 }
+
+-- no link, and one more
+pub cells_none : (raw : RawNet) → [] ≡ cells_of_links raw.steps raw.signals raw.links 0
+unfolding cells_of_links join_below
+cells_none raw = refl
+
+cells_more : (raw : RawNet) (k : ℕ) → cells_of_links raw.steps raw.signals raw.links (k + 1) ≡ cells_of_links raw.steps raw.signals raw.links k ++ cells_at raw.steps raw.signals raw.links k
+unfolding cells_of_links
+cells_more raw k = join_below-suc k (cells_at raw.steps raw.signals raw.links)
+
+-- the cells of link k behind those of the links before it
+pub link_is_added : (raw : RawNet) (k : ℕ) (before all : List Cell) → before ≡ cells_of_links raw.steps raw.signals raw.links k →
+    all ≡ before ++ cells_of_link raw.steps (length before) (out_by raw.links (raw_link raw.links k).to (raw_link raw.links k).turns) (gate_of raw.signals (raw_link raw.links k)) (raw_link raw.links k) →
+    all ≡ cells_of_links raw.steps raw.signals raw.links (k + 1)
+link_is_added raw k before all is added =
+    let count : length before ≡ cells_below raw.links k = ap length is ∙ length-cells_before raw k in
+    let link = raw_link raw.links k in
+    added ∙ ap (λ first. before ++ cells_of_link raw.steps first (out_by raw.links link.to link.turns) (gate_of raw.signals link) link) count
+    ∙ ap (λ cells. cells ++ cells_at raw.steps raw.signals raw.links k) is ∙ sym (cells_more raw k)
+
+-- the cells up to link k are few
+pub link_is_few : (raw : RawNet) (k : ℕ) → HasNoFault raw → k < length raw.links → length (cells_of_links raw.steps raw.signals raw.links k) + cell_count (raw_link raw.links k) ≤ 256
+link_is_few raw k fine within =
+    omega (arith, length-cells_before raw k, cells_are_few raw fine, next_is_few raw.links k within)
+
+-- a link that names a signal finds one
+pub has_signals : (raw : RawNet) (k : ℕ) → HasNoFault raw → k < length raw.links → (raw_link raw.links k).signal ≢ None → 0 < length raw.signals
+has_signals raw k fine within gated = signals_are_there raw.signals raw.links tt (rw fine.unknown_signal refl) k no_link within gated

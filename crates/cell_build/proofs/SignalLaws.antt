@@ -3,7 +3,7 @@ use Rattle.std.proofs.Common.{◌≡◌, ◌≢◌, ℕ, ◌<◌, ◌≤◌, fal
 use Rattle.std.specs.List.{list_any}
 use Rattle.std.specs.Str.{bytes_eq}
 use Rattle.std.proofs.lemmas.Bool.{true≢false}
-use Rattle.std.proofs.lemmas.List.{get_or_default, get_or-map, length-map}
+use Rattle.std.proofs.lemmas.List.{get_or-map, length-map}
 use Rattle.ct_base.specs.Access as base
 use Rattle.ct_base.specs.Validity.{IsBetween, IsGate, IsPhase, IsSignal}
 use Rattle.ct_base.specs.declared.signal.Signal.{Signal}
@@ -15,8 +15,8 @@ use Rattle.cell_build.specs.Built.{phase_built, signal_built, start_among}
 use Rattle.cell_build.specs.Link.{gate_by, gate_of, signal_named}
 use Rattle.cell_build.specs.Names.{is_unknown, raw_link, no_phase, no_signal, number_of, phase_names, raw_phase, signal_names, raw_signal}
 use Rattle.cell_build.specs.Refusals.{is_empty}
-use Rattle.cell_build.proofs.FaultLaws.{HasNoFault, IsPhaseRuled, green_is_known, next_is_known, phase_is_ruled, signal_is_known, start_is_known}
-use Rattle.cell_build.proofs.NumberLaws.{bit_at-set_of, get_or-number_of, not_among, number_within, set_of-lt, set_of-some}
+use Rattle.cell_build.proofs.FaultLaws.{HasNoFault, IsPhaseRuled, greens_are_known, nexts_are_known, phase_is_ruled, signal_is_known, start_is_known}
+use Rattle.cell_build.proofs.NameLaws.{bit_at-set_of, get_or-number_of, not_among, number_within, set_of-lt, set_of-some}
 
 -- a list that is not empty has an element
 some_there : {X : Type 0} (xs : List X) → is_empty xs ≡ false → 0 < length xs
@@ -26,13 +26,6 @@ some_there (x ∷ xs) some = omega arith
 -- signal s of the file, and phase p of it
 signal_in_range : (raw : RawNet) (s : ℕ) → IsInRange raw → s < length raw.signals → IsSignalInRange (raw_signal raw.signals s)
 signal_in_range raw s in_range within = in_range.each_signal s no_signal within
-
--- all that may follow a phase are phases of the signal
-nexts_are_known : (raw : RawNet) (s p : ℕ) → HasNoFault raw → s < length raw.signals → p < length (raw_signal raw.signals s).phases →
-    All (λ name. is_unknown (phase_names (raw_signal raw.signals s)) name ≡ false) (raw_phase (raw_signal raw.signals s) p).next
-nexts_are_known raw s p fine within inner = λ j d there.
-    let next = (raw_phase (raw_signal raw.signals s) p).next in
-    rw (get_or_default next j d [] there) (next_is_known raw s p j fine within inner there)
 
 -- no name that may follow a phase stands for the phase
 follows_another : (names more : List (List ℕ)) (p : ℕ) → All (λ name. is_unknown names name ≡ false) more → list_any (bytes_eq (get_or names p [])) more ≡ false → All (λ name. number_of names name ≢ p) more
@@ -81,13 +74,6 @@ signal_is_signal raw s in_range fine within =
           let inner : p < length signal.phases = rw length-map at there in
           rw (length-map, get_or-map build signal.phases p no_phase base.no_phase inner) (phase_is_phase raw s p in_range fine within inner);
     }
-
--- the greens of a link are phases of its signal
-greens_are_known : (raw : RawNet) (k : ℕ) (name : List ℕ) → HasNoFault raw → k < length raw.links → (raw_link raw.links k).signal ≡ Some name →
-    All (λ green. is_unknown (phase_names (signal_named raw.signals name)) green ≡ false) (raw_link raw.links k).greens
-greens_are_known raw k name fine within gated = λ j d there.
-    let greens = (raw_link raw.links k).greens in
-    rw (get_or_default greens j d [] there) (green_is_known raw k j name fine within gated there)
 
 -- the signals of a network of cells
 abbrev pub signals_of : RawNet → List Signal

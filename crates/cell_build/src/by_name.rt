@@ -186,6 +186,7 @@ fn names_of_signals<'a>(
 }
 
 /// The number of a name.
+#[tactic(auto, using(crate::proofs::NameLaws::position_text))]
 fn place_among<'a>(names: &IndexSet<&'a str>, name: &str) -> Option<usize>
     ensures value { result ≡ position (bytes_eq name.now) (texts names.now.keys) }
     ensures below { IfSome result (λ place. place < length names.now.keys) }

@@ -31,7 +31,7 @@ pub(crate) fn judge(alloc: Global, raw: &Numbered<'_>) -> Result<Listed<Option<U
 }
 
 /// The rules, in their order.
-#[tactic(auto, using(crate::proofs::KnownSignals::signals_are_there))]
+#[tactic(auto, using(crate::proofs::FaultLaws::signals_are_there))]
 fn judge_parts(
     alloc: Global,
     links: &Links<'_>,

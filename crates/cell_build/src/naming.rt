@@ -109,6 +109,7 @@ fn add_queue_place(places: &mut Listed<Place>, k: u32, pieces: &[Piece]) -> Resu
 }
 
 /// Adds the places of the road cells of link k.
+#[tactic(auto, using(crate::proofs::TableSteps::table_steps))]
 fn add_road_places(places: &mut Listed<Place>, k: u32, cells: u32) -> Result<(), Memory>
     ensures { OnOk result (places.new ≡ places.old ++ table_of cells (λ i. record { link = k; road = Some i })) }
 {

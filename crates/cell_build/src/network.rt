@@ -18,6 +18,7 @@ use ct_base::{Cell, Listed, Memory, Net, Units};
 use std::alloc::Global;
 
 /// The cells and signals of a file as a network. The demands are moved into the queues.
+#[tactic(auto, unfolding(crate::specs::Built::named_of))]
 pub(crate) fn net_of(
     alloc: Global,
     raw: &Numbered<'_>,

@@ -1,13 +1,10 @@
 -- One road cell more, and the last one.
-use Rattle.std.proofs.Common.{◌≡◌, ◌+◌, ◌-◌, ◌++◌, length, ◌∙◌, refl, arith}
+use Rattle.std.proofs.Common.{◌≡◌, ◌+◌, ◌-◌, ◌++◌, length, ◌∙◌, arith}
 use Rattle.listed.specs.Below.{table_of}
 use Rattle.cell_build.specs.Link.{initial_at, road_of}
 use Rattle.cell_build.proofs.LinkCells.{road_of-inner, road_of-last}
-use Rattle.cell_build.proofs.TableSteps.{behind_none, behind_more}
+use Rattle.cell_build.proofs.TableSteps.{behind_more}
 use Rattle.cell_build.proofs.link.add_road.Goals as goal
-
-pub loop-k-init : goal.loop-k-init
-loop-k-init c = record { built = behind_none c.args.cells.now.items _; last = refl }
 
 pub loop-k-preserved : goal.loop-k-preserved
 loop-k-preserved c =

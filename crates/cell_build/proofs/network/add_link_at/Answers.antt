@@ -2,10 +2,10 @@
 use Rattle.std.proofs.Common.{◌≡◌, ap, ◌∙◌, arith}
 use Rattle.cell_build.specs.Link.{gate_of, out_by}
 use Rattle.cell_build.specs.Names.{raw_link}
-use Rattle.cell_build.proofs.BuildLaws.{has_signals, link_is_added, link_is_few}
+use Rattle.cell_build.proofs.PlaceLaws.{has_signals, link_is_added, link_is_few}
 use Rattle.cell_build.proofs.FaultLaws.{has_no_fault}
-use Rattle.cell_build.proofs.QueueLaws.{cells_behind, length-queued}
-use Rattle.cell_build.proofs.NumberedLaws.{same_links, same_signals}
+use Rattle.cell_build.proofs.LinkCells.{cells_behind, length-queued}
+use Rattle.cell_build.proofs.NameLaws.{same_links, same_signals}
 use Rattle.cell_build.proofs.network.add_link_at.Goals as goal
 
 pub get-link-requires : goal.get-link-requires

@@ -4,8 +4,8 @@ use Rattle.std.proofs.lemmas.List.{get_or_read, get_or-map, length-map}
 use Rattle.network_file.specs.declared.raw.RawLink.{RawLink}
 use Rattle.cell_build.specs.Names.{raw_link, no_link}
 use Rattle.cell_build.specs.inner.Queues.{demands_of, queue_demand}
-use Rattle.cell_build.proofs.BuildLaws.{cells_none}
-use Rattle.cell_build.proofs.NumberedLaws.{same_links}
+use Rattle.cell_build.proofs.PlaceLaws.{cells_none}
+use Rattle.cell_build.proofs.NameLaws.{same_links}
 use Rattle.cell_build.proofs.network.cells_of.Goals as goal
 
 pub loop-number-init : goal.loop-number-init

@@ -1,8 +1,6 @@
--- The links that are left have the faults of all.
-use Rattle.std.proofs.Common.{◌≡◌, drop}
-use Rattle.refusals.specs.Faults.{items_from, per_item}
 use Rattle.cell_build.specs.Refusals.{open_merge_at}
+use Rattle.cell_build.proofs.Walks.{RestHasAll}
 use Rattle.cell_build.proofs.judge.merges.open_merge.Given as goal
 
 abbrev pub invariant-loop-k : goal.invariant-loop-k
-invariant-loop-k l = per_item l.links (open_merge_at l.signals l.links) ≡ items_from l.k (drop l.k l.links) (open_merge_at l.signals l.links)
+invariant-loop-k l = RestHasAll l.links (open_merge_at l.signals l.links) l.k

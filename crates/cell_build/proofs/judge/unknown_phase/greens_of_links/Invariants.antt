@@ -1,8 +1,6 @@
--- The links that are left have the faults of all.
-use Rattle.std.proofs.Common.{◌≡◌, drop}
-use Rattle.refusals.specs.Faults.{items_from, per_item}
 use Rattle.cell_build.specs.Refusals.{unknown_greens_at}
+use Rattle.cell_build.proofs.Walks.{RestHasAll}
 use Rattle.cell_build.proofs.judge.unknown_phase.greens_of_links.Given as goal
 
 abbrev pub invariant-loop-k : goal.invariant-loop-k
-invariant-loop-k l = per_item l.links (unknown_greens_at l.signals) ≡ items_from l.k (drop l.k l.links) (unknown_greens_at l.signals)
+invariant-loop-k l = RestHasAll l.links (unknown_greens_at l.signals) l.k

@@ -1,0 +1,7 @@
+-- A walk over the items of a list that stops at the first fault.
+use Rattle.std.proofs.Common.{◌≡◌, ℕ, List, drop}
+use Rattle.refusals.specs.Faults.{items_from, per_item}
+
+-- the items from k on have the faults of all
+abbrev pub RestHasAll : {X E : Type 0} → List X → (ℕ → X → List E) → ℕ → Type 0
+RestHasAll xs faults k = per_item xs faults ≡ items_from k (drop k xs) faults
