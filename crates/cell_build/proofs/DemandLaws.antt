@@ -9,7 +9,7 @@ use Rattle.demand.proofs.DemandLaws.{length-rates_of, slice_index-rates_of}
 use Rattle.refusals.specs.Faults.{unless}
 use Rattle.refusals.specs.Memory.{OrMemory}
 use Rattle.refusals.proofs.Items.{per_item_of_none}
-use Rattle.refusals.proofs.Memory.{made_without_fault}
+use Rattle.refusals.proofs.Memory.{made_without_fault, refused_as_well}
 use Rattle.std.proofs.lemmas.List.{get_or_default}
 use Rattle.cell_build.specs.inner.Queues.{fault_of, queue_demand}
 use Rattle.cell_build.specs.declared.fault.BuildFault.TheVariants.{Demand, Memory}
@@ -59,3 +59,6 @@ sum_is_demand k [] steps units some sum = absurd (omega arith)
 sum_is_demand k (piece ∷ pieces) steps units some sum =
     let made = made_without_fault Memory (map (Demand k) (faults_of (piece ∷ pieces) steps)) (rates_of (piece ∷ pieces) steps) units sum in
     inl (rw (made.0, made.1) refl)
+
+-- what the sum of a link's pieces makes of it
+pub ruleset part_steps = (refused_as_well, sum_is_demand)

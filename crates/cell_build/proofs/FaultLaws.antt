@@ -212,3 +212,6 @@ unfolding unknown_signal
 signals_are_there signals links judged fine = λ k d within.
     rw (get_or_default links k d no_link within)
     (some_signal signals k (raw_link links k).signal (per_item_none links (unknown_signal_at (signal_names signals)) k no_link (unless_fine _ judged judged fine) within))
+
+-- what building asks of a network without a fault
+pub ruleset few_steps = (has_no_fault, cells_are_few)

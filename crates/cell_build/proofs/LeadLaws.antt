@@ -44,17 +44,13 @@ pub record LeadsInto (links : List RawLink) (k m : ℕ) : Type 0 where
   pub leads : leads_to (raw_link links k) (raw_link links m).name ≡ true
   pub other : m ≢ k
 
--- the name of the link with a number
-pub name_of_link : (links : List RawLink) (m : ℕ) (d : List ℕ) → m < length links → get_or (link_names links) m d ≡ (raw_link links m).name
-name_of_link links m d within = get_or-map (λ (link : RawLink). link.name) links m no_link d within
-
 -- what link k names is a link that it leads into
 named_is_led_into : (raw : RawNet) (k : ℕ) (name : List ℕ) → HasNoFault raw → k < length raw.links → Names (raw_link raw.links k) name → LeadsInto raw.links k (number_of (link_names raw.links) name)
 named_is_led_into raw k name fine within names =
     let m = number_of (link_names raw.links) name in
     let known : is_unknown (link_names raw.links) name ≡ false = named_is_known raw k name fine within names in
     let there : m < length raw.links = omega (arith, number_within (link_names raw.links) name known, length-map raw.links (λ (link : RawLink). link.name)) in
-    let own : (raw_link raw.links m).name ≡ name = sym (name_of_link raw.links m [] there) ∙ get_or-number_of (link_names raw.links) name [] known in
+    let own : (raw_link raw.links m).name ≡ name = sym (get_or-map (λ (link : RawLink). link.name) raw.links m no_link [] there) ∙ get_or-number_of (link_names raw.links) name [] known in
     let leads : leads_to (raw_link raw.links k) (raw_link raw.links m).name ≡ true = rw own (leads_to_named (raw_link raw.links k) name names) in
     record {
       within = there;

@@ -1,5 +1,6 @@
 -- The cells of a link: lists with an element for its queue, where there is demand, and one for each of its road cells; what each
 -- cell keeps, where the link is in range, its demand is light and its units at step 0 fit; and its cells behind others.
+use Rattle.cell_build.proofs.TableSteps.{table_steps}
 use Rattle.std.proofs.Common.{◌≡◌, ℕ, zero, suc, ◌+◌, ◌-◌, ◌<◌, ◌≤◌, List, [], ◌∷◌, ◌++◌, length, get_or, refl, ap, ◌∙◌, arith, inl, inr, Bool, if◌then◌else◌, Option, None, append_assoc}
 use Rattle.listed.specs.Below.{table_of}
 use Rattle.listed.proofs.TableLaws.{length-table_of, get_or-table_of}
@@ -97,6 +98,9 @@ pub road_of-last : (first_road i : ℕ) (last : Out) (gate : Option Gate) (link 
     road_of first_road last gate link i ≡ road_to gate last (initial_at link.initial i) link
 road_of-last first_road i last gate link is_last =
     ap (λ (b : Bool). road_to (if b then None else gate) (if b then To (first_road + (i + 1)) else last) (initial_at link.initial i) link) (le-ltb (i + 1) link.cells (omega arith))
+
+-- the steps of a walk over the road cells
+pub ruleset road_steps = (table_steps, road_of-inner, road_of-last)
 
 -- how many cells a link has
 pub length-cells_of_link : (steps first : ℕ) (last : Out) (gate : Option Gate) (link : RawLink) → length (cells_of_link steps first last gate link) ≡ cell_count link

@@ -15,7 +15,6 @@ use Rattle.network_file.specs.Range.{all_differ}
 use Rattle.cell_build.specs.Names.{is_unknown, number_of, set_of}
 use Rattle.std.proofs.Math.Seq.{take-suc}
 use Rattle.indexmap.specs.IndexSet.{insert_key}
-use Rattle.network_file.specs.declared.raw.RawNet.{RawNet}
 use Rattle.cell_build.specs.inner.Numbered.{texts}
 
 -- the same, where the length stands for no place
@@ -114,10 +113,3 @@ one_name_more name_of items names name item i differ within before is own =
     ∙ map_push (λ (name : Bor (List ℕ)). name.now) names name
     ∙ ap (λ texts. texts ++ name.now ∷ []) before ∙ ap (λ text. take i all ++ text ∷ []) here
     ∙ sym (take-suc all i [] there) ∙ ap (λ n. take n all) (sym (add-one i))
-
--- the parts of one network are the same
-pub same_links : {a b : RawNet} → a ≡ b → a.links ≡ b.links
-same_links is = ap (λ (raw : RawNet). raw.links) is
-
-pub same_signals : {a b : RawNet} → a ≡ b → a.signals ≡ b.signals
-same_signals is = ap (λ (raw : RawNet). raw.signals) is

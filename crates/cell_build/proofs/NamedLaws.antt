@@ -1,14 +1,14 @@
 -- The names of a network that is read and has no fault fit it, and so do those of a network that bytes spell.
-use Rattle.std.proofs.Common.{◌≡◌, inl, inr, ℕ, ◌<◌, true, List, [], ◌∷◌, length, get_or, map, Some, None, All, refl, subst, sym, ap, ◌∙◌, arith, Result, Ok, Err}
+use Rattle.std.proofs.Common.{◌≡◌, inl, inr, ℕ, ◌<◌, true, List, [], ◌∷◌, length, get_or, Some, None, All, refl, subst, sym, ap, ◌∙◌, arith, Result, Ok, Err}
 use Rattle.std.proofs.lemmas.Bool.{cases_lt}
 use Rattle.std.proofs.lemmas.List.{get_or-map, length-map}
+use Rattle.std.proofs.lemmas.Simd.{map-map}
 use Rattle.std.proofs.lemmas.List.Elements.{All-map}
 use Rattle.ct_base.specs.Access.{cell_of, signal_of as built_signal}
 use Rattle.ct_base.specs.declared.cell.Kind.TheVariants.{Queue, Road}
 use Rattle.network_file.specs.Range.{IsInRange, IsSignalInRange, all_differ}
 use Rattle.network_file.specs.declared.raw.RawNet.{RawNet}
 use Rattle.network_file.specs.declared.raw.RawLink.{RawLink}
-use Rattle.network_file.specs.declared.raw.RawSignal.{RawSignal}
 use Rattle.network_file.specs.declared.raw.RawPhase.{RawPhase}
 use Rattle.texts.specs.Names.{is_name}
 use Rattle.cell_build.specs.Built.{named_of, signal_built, built}
@@ -93,12 +93,7 @@ cell_is_placed raw j k i in_range fine here =
           (record { link = is_there; queue = λ is_queue. absurd (cc); road = λ _. refl })
     ]
 
--- the names of the signals are those that the file gives
-names_of_signals : (signals : List RawSignal) → map (λ (signal : SignalNames). signal.name) (map names_of_signal signals) ≡ map (λ (signal : RawSignal). signal.name) signals
-names_of_signals [] = refl
-names_of_signals (signal ∷ signals) = ap (λ names. signal.name ∷ names) (names_of_signals signals)
-
--- those of signal s, as the network has it
+-- the names of signal s, as the network has it
 signal_is_named : (raw : RawNet) (s : ℕ) → IsInRange raw → s < length raw.signals → AreSignalNames (built_signal (signals_of raw) s) (names_of_signal (raw_signal raw.signals s))
 signal_is_named raw s in_range within =
     let signal = raw_signal raw.signals s in
@@ -120,7 +115,7 @@ named_is_named raw in_range none = record {
   each_signal = λ s there.
       let within : s < length raw.signals = omega (arith, there, length-map raw.signals names_of_signal) in
       rw (get_or-map names_of_signal raw.signals s no_signal (record { name = []; phases = [] }) within) (signal_is_named raw s in_range within);
-  differ = ap all_differ (names_of_signals raw.signals) ∙ in_range.signals_differ;
+  differ = ap all_differ (map-map (λ (names : SignalNames). names.name) names_of_signal raw.signals) ∙ in_range.signals_differ;
   one_per_cell = length-places_of raw.links ∙ sym (length-cells_of raw);
   each_cell = λ j there.
       let within : j < cells_below raw.links (length raw.links) = omega (arith, there, length-places_of raw.links) in

@@ -1,7 +1,8 @@
 -- Where the cells of a network lie: the first road cells by number, each cell as one cell of one link, and the cells one link
 -- at a time.
+use Rattle.cell_build.proofs.TableSteps.{table_steps}
 use Rattle.std.proofs.Common.{◌≡◌, ℕ, ◌+◌, ◌<◌, ◌≤◌, List, length, get_or, Option, Some, None, IfSome, unwrap_or, sym, ap, ◌∙◌, arith, inl, inr, refl, ◌≢◌, [], ◌++◌}
-use Rattle.std.proofs.lemmas.List.{get_or_read}
+use Rattle.std.proofs.lemmas.List.{get_or-map, length-map, get_or_read}
 use Rattle.listed.proofs.SumLaws.{sum_below-fewer, sum_below-suc, sum_below-zero}
 use Rattle.listed.proofs.TableLaws.{get_or-table_of, length-table_of}
 use Rattle.network_file.specs.declared.raw.RawLink.{RawLink}
@@ -13,9 +14,9 @@ use Rattle.ct_base.specs.Access.{cell_of, no_cell}
 use Rattle.ct_base.specs.declared.cell.Cell.{Cell}
 use Rattle.network_file.specs.Range.{IsInRange, IsLinkInRange}
 use Rattle.network_file.specs.declared.raw.RawNet.{RawNet}
-use Rattle.cell_build.proofs.FaultLaws.{HasNoFault, has_room, step_is_light, cells_are_few, signals_are_there}
+use Rattle.cell_build.proofs.FaultLaws.{HasNoFault, has_room, step_is_light, cells_are_few, signals_are_there, has_no_fault}
 use Rattle.listed.proofs.JoinLaws.{get_or-join_below, length-join_below, part_of, join_below-suc}
-use Rattle.cell_build.proofs.LinkCells.{IsFit, IsLinkCell, cell_of-cells_of_link, length-cells_of_link}
+use Rattle.cell_build.proofs.LinkCells.{IsFit, IsLinkCell, cell_of-cells_of_link, length-cells_of_link, cells_behind, length-queued}
 use Rattle.listed.specs.Below.{join_below}
 
 -- a place that was found, or the first one, is that of a link, whose first road cell stands there
@@ -32,6 +33,9 @@ below_none links = sym (sum_below-zero (λ m. cell_count (raw_link links m)))
 pub cells_below-suc : (links : List RawLink) (k : ℕ) → cells_below links (k + 1) ≡ cells_below links k + cell_count (raw_link links k)
 cells_below-suc links k = sum_below-suc k (λ m. cell_count (raw_link links m))
 
+-- the steps of a walk over links that counts cells
+pub ruleset cell_steps = (below_none, cells_below-suc, get_or_read)
+
 pub cells_below-fewer : (links : List RawLink) (m n : ℕ) → m ≤ n → cells_below links m ≤ cells_below links n
 cells_below-fewer links m n le = sum_below-fewer m n (λ m. cell_count (raw_link links m)) le
 
@@ -39,14 +43,8 @@ cells_below-fewer links m n le = sum_below-fewer m n (λ m. cell_count (raw_link
 pub next_is_few : (links : List RawLink) (k : ℕ) → k < length links → cells_below links k + cell_count (raw_link links k) ≤ cells_below links (length links)
 next_is_few links k within = omega (arith, cells_below-suc links k, cells_below-fewer links (k + 1) (length links) (omega arith))
 
--- the link at hand: its first road cell, and the cells behind it
-pub at_hand : (links : List RawLink) (k : ℕ) (link : RawLink) (queues : ℕ) → k < length links → link ≡ get_or links k link → queues ≡ queue_count link.pieces →
-    (cells_below links k + queues ≡ first_road links k) × (cells_below links k + (queues + link.cells) ≡ cells_below links (k + 1)) × (cells_below links (k + 1) ≤ cells_below links (length links))
-at_hand links k link queues within is count =
-    let item : link ≡ raw_link links k = get_or_read links k link within is no_link in
-    let here : queues ≡ queue_count (raw_link links k).pieces = count ∙ ap (λ link. queue_count link.pieces) item in
-    let cells : link.cells ≡ (raw_link links k).cells = ap (λ link. link.cells) item in
-    (omega arith, omega (arith, cells_below-suc links k), cells_below-fewer links (k + 1) (length links) (omega arith))
+-- the steps of a walk over links that numbers their first road cells
+pub ruleset road_steps = (cell_steps, next_is_few, table_steps)
 
 -- cell j of the network is cell i of link k
 pub record IsAt (links : List RawLink) (j k i : ℕ) : Type 0 where
@@ -130,6 +128,9 @@ pub cells_none : (raw : RawNet) → [] ≡ cells_of_links raw.steps raw.signals 
 unfolding cells_of_links join_below
 cells_none raw = refl
 
+-- the steps of a walk over the demands of links
+pub ruleset demand_steps = (cells_none, get_or_read, get_or-map, length-map)
+
 cells_more : (raw : RawNet) (k : ℕ) → cells_of_links raw.steps raw.signals raw.links (k + 1) ≡ cells_of_links raw.steps raw.signals raw.links k ++ cells_at raw.steps raw.signals raw.links k
 unfolding cells_of_links
 cells_more raw k = join_below-suc k (cells_at raw.steps raw.signals raw.links)
@@ -152,3 +153,6 @@ link_is_few raw k fine within =
 -- a link that names a signal finds one
 pub has_signals : (raw : RawNet) (k : ℕ) → HasNoFault raw → k < length raw.links → (raw_link raw.links k).signal ≢ None → 0 < length raw.signals
 has_signals raw k fine within gated = signals_are_there raw.signals raw.links tt (rw fine.unknown_signal refl) k no_link within gated
+
+-- what adding a link asks and does
+pub ruleset link_steps = (has_no_fault, has_signals, link_is_few, length-queued, cells_behind, link_is_added)

@@ -23,10 +23,6 @@ some_there : {X : Type 0} (xs : List X) → is_empty xs ≡ false → 0 < length
 some_there [] some = absurd (true≢false some)
 some_there (x ∷ xs) some = omega arith
 
--- signal s of the file, and phase p of it
-signal_in_range : (raw : RawNet) (s : ℕ) → IsInRange raw → s < length raw.signals → IsSignalInRange (raw_signal raw.signals s)
-signal_in_range raw s in_range within = in_range.each_signal s no_signal within
-
 -- no name that may follow a phase stands for the phase
 follows_another : (names more : List (List ℕ)) (p : ℕ) → All (λ name. is_unknown names name ≡ false) more → list_any (bytes_eq (get_or names p [])) more ≡ false → All (λ name. number_of names name ≢ p) more
 follows_another names more p known none = λ j d there same.
@@ -40,7 +36,7 @@ phase_is_phase raw s p in_range fine within inner =
     let signal = raw_signal raw.signals s in
     let phase = raw_phase signal p in
     let names = phase_names signal in
-    let limits : IsPhaseInRange phase = (signal_in_range raw s in_range within).each_phase p no_phase inner in
+    let limits : IsPhaseInRange phase = (in_range.each_signal s no_signal within).each_phase p no_phase inner in
     let ruled : IsPhaseRuled phase = phase_is_ruled raw s p fine within inner in
     let known : All (λ name. is_unknown names name ≡ false) phase.next = nexts_are_known raw s p fine within inner in
     let count : length names ≡ length signal.phases = length-map signal.phases _ in
@@ -65,7 +61,7 @@ start_is_phase signal (Some name) some known = omega (arith, number_within (phas
 pub signal_is_signal : (raw : RawNet) (s : ℕ) → IsInRange raw → HasNoFault raw → s < length raw.signals → IsSignal (signal_built (raw_signal raw.signals s))
 signal_is_signal raw s in_range fine within =
     let signal = raw_signal raw.signals s in
-    let limits : IsSignalInRange signal = signal_in_range raw s in_range within in
+    let limits : IsSignalInRange signal = in_range.each_signal s no_signal within in
     let build = phase_built (phase_names signal) in
     record {
       phases = rw length-map limits.phases;

@@ -1,12 +1,11 @@
--- Tables that are filled one element at a time.
+-- Tables and joins that are filled one element at a time.
 use Rattle.std.proofs.Common.{◌≡◌, ℕ, ◌+◌, ◌∷◌, ◌++◌, List, [], refl, append_assoc}
-use Rattle.std.proofs.lemmas.List.{append-nil}
-use Rattle.listed.specs.Below.{table_of}
+use Rattle.std.proofs.lemmas.List.{append-nil, get_or_read}
+use Rattle.listed.proofs.JoinLaws.{join_below-suc, join_below-zero}
 use Rattle.listed.proofs.TableLaws.{table_of-zero, table_of-suc}
 
 -- no element, and one more
-pub ruleset table_steps = (table_of-zero, table_of-suc, append-nil, append_assoc)
+pub ruleset table_steps = (table_of-zero, table_of-suc, join_below-zero, append-nil, append_assoc)
 
--- a table behind other elements: one element more
-pub behind_more : {X : Type 0} (before xs : List X) (n : ℕ) (f : ℕ → X) (x : X) → xs ≡ before ++ table_of n f → x ≡ f n → xs ++ x ∷ [] ≡ before ++ table_of (n + 1) f
-behind_more before xs n f x here same = rw (here, same, table_of-suc, append_assoc) refl
+-- one list more, and the item that a walk is at
+pub ruleset join_steps = (table_steps, join_below-suc, get_or_read)

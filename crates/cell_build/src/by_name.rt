@@ -1,7 +1,7 @@
 //! Links, signals and phases by their names. Links and signals are found without a walk over the list; the phases of a
 //! signal, of which there are at most 8, are looked through.
 
-ghost use Rattle.std.specs.Prelude.{◌≡◌, ◌<◌, true, length, map, position, IfOk, IfSome};
+ghost use Rattle.std.specs.Prelude.{◌≡◌, ℕ, ◌<◌, List, true, length, map, position, IfOk, IfSome};
 ghost use Rattle.std.specs.Str.{bytes_eq};
 ghost use Rattle.cell_build.specs.Link.{signal_named};
 ghost use Rattle.cell_build.specs.Names.{link_names, raw_link, signal_names};
@@ -40,7 +40,7 @@ impl<'a> Links<'a> {
         requires { all_differ (link_names links.now) ≡ true }
         ensures { IfOk result (λ made. made ≡ links.now) }
     {
-        let names = names_of_links(alloc, links)?;
+        let names = names_of(alloc, links)?;
         Ok(Links { links, names })
     }
 
@@ -94,7 +94,7 @@ impl<'a> Signals<'a> {
         requires { all_differ (signal_names signals.now) ≡ true }
         ensures { IfOk result (λ made. made ≡ signals.now) }
     {
-        let names = names_of_signals(alloc, signals)?;
+        let names = names_of(alloc, signals)?;
         Ok(Signals { signals, names })
     }
 
@@ -158,29 +158,39 @@ impl<'a> Numbered<'a> {
     }
 }
 
-/// The names of links, each at the number of its link.
-fn names_of_links<'a>(alloc: Global, links: &'a [RawLink]) -> Result<IndexSet<&'a str>, Memory>
-    requires { all_differ (link_names links.now) ≡ true }
-    ensures { IfOk result (λ names. texts names.keys ≡ link_names links.now) }
-{
-    let mut names = IndexSet::with_capacity(alloc, links.len())?;
-    for link in links {
-        names.insert(link.name.as_str())?;
-    }
-    Ok(names)
+/// What a file gives a name.
+trait HasName {
+    ghost name_of: { Self → List ℕ };
+
+    /// The name.
+    fn name(&self) -> &str
+        ensures { result.now ≡ name_of self.now };
 }
 
-/// The names of signals, each at the number of its signal.
-fn names_of_signals<'a>(
-    alloc: Global,
-    signals: &'a [RawSignal],
-) -> Result<IndexSet<&'a str>, Memory>
-    requires { all_differ (signal_names signals.now) ≡ true }
-    ensures { IfOk result (λ names. texts names.keys ≡ signal_names signals.now) }
+impl HasName for RawLink {
+    ghost name_of = { λ link. link.name };
+
+    fn name(&self) -> &str {
+        self.name.as_str()
+    }
+}
+
+impl HasName for RawSignal {
+    ghost name_of = { λ signal. signal.name };
+
+    fn name(&self) -> &str {
+        self.name.as_str()
+    }
+}
+
+/// The names of links or signals, each at the number of its link or signal.
+fn names_of<'a, T: HasName>(alloc: Global, items: &'a [T]) -> Result<IndexSet<&'a str>, Memory>
+    requires { all_differ (map T.name_of items.now) ≡ true }
+    ensures { IfOk result (λ names. texts names.keys ≡ map T.name_of items.now) }
 {
-    let mut names = IndexSet::with_capacity(alloc, signals.len())?;
-    for signal in signals {
-        names.insert(signal.name.as_str())?;
+    let mut names = IndexSet::with_capacity(alloc, items.len())?;
+    for item in items {
+        names.insert(item.name())?;
     }
     Ok(names)
 }

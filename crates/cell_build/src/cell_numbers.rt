@@ -30,6 +30,7 @@ fn cell_count(link: &RawLink) -> u32
 }
 
 /// How many cells the links become.
+#[tactic(auto, using(crate::proofs::PlaceLaws::cell_steps))]
 pub(crate) fn count_of_cells(links: &[RawLink]) -> u32
     requires few { length links.now ≤ 64 }
     requires in_range { All IsLinkInRange links.now }
@@ -43,6 +44,7 @@ pub(crate) fn count_of_cells(links: &[RawLink]) -> u32
 }
 
 /// The number of the first road cell of each link.
+#[tactic(auto, using(crate::proofs::PlaceLaws::road_steps))]
 pub(crate) fn first_roads(alloc: Global, links: &[RawLink]) -> Result<Vec<u32>, Memory>
     requires some { 0 < length links.now }
     requires few { cells_below links.now (length links.now) ≤ 256 }
@@ -59,6 +61,7 @@ pub(crate) fn first_roads(alloc: Global, links: &[RawLink]) -> Result<Vec<u32>, 
 }
 
 /// The number of the first road cell of the link with a name.
+#[tactic(auto, using(crate::proofs::PlaceLaws::found_first))]
 pub(crate) fn road_named(links: &Links<'_>, firsts: &[u32], name: &str) -> u32
     requires { AreFirsts links.now firsts.now }
     ensures { result ≡ road_named links.now name.now }

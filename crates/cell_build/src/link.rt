@@ -45,7 +45,7 @@ fn queue_cell(link: &RawLink, out: Out, demand: Units) -> Cell
 
 /// Adds the road cells of a link to the cells before them. Each leads to the next, and the last one to `last`, behind
 /// `gate`.
-#[tactic(auto, using(crate::proofs::TableSteps::table_steps))]
+#[tactic(auto, using(crate::proofs::LinkCells::road_steps))]
 pub(crate) fn add_road(
     alloc: Global,
     cells: &mut Vec<Cell>,

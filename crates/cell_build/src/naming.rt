@@ -73,6 +73,7 @@ fn names_of_phases(alloc: Global, phases: Listed<RawPhase>) -> Result<Listed<Nam
 }
 
 /// The place of each cell, link by link.
+#[tactic(auto, using(crate::proofs::TableSteps::join_steps), unfolding(crate::specs::Naming::places_of))]
 fn places_of(alloc: Global, links: &[RawLink]) -> Result<Listed<Place>, Memory>
     requires few { length links.now ≤ 64 }
     requires in_range { All IsLinkInRange links.now }

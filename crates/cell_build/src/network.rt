@@ -18,7 +18,7 @@ use ct_base::{Cell, Listed, Memory, Net, Units};
 use std::alloc::Global;
 
 /// The cells and signals of a file as a network. The demands are moved into the queues.
-#[tactic(auto, unfolding(crate::specs::Built::named_of))]
+#[tactic(auto, using(crate::proofs::FaultLaws::few_steps), unfolding(crate::specs::Built::named_of))]
 pub(crate) fn net_of(
     alloc: Global,
     raw: &Numbered<'_>,
@@ -40,6 +40,7 @@ pub(crate) fn net_of(
 }
 
 /// The cells of all links, in the order of the file. The demands are moved into the queues.
+#[tactic(auto, using(crate::proofs::PlaceLaws::demand_steps))]
 fn cells_of(
     alloc: Global,
     raw: &Numbered<'_>,
@@ -55,7 +56,7 @@ fn cells_of(
 {
     let count = count_of_cells(raw.links.as_slice());
     let mut cells = Vec::with_capacity(alloc, count as usize)?;
-    for number in 0..raw.links.as_slice().len() {
+    for number in 0..demands.len() {
         let demand = demands[number].take();
         add_link_at(alloc, &mut cells, raw, firsts, number, demand)?;
     }
@@ -63,6 +64,7 @@ fn cells_of(
 }
 
 /// Adds the cells of the link with a number to those of the links before it.
+#[tactic(auto, using(crate::proofs::PlaceLaws::link_steps))]
 fn add_link_at(
     alloc: Global,
     cells: &mut Vec<Cell>,

@@ -16,6 +16,7 @@ use network_file::RawLink;
 use std::alloc::Global;
 
 /// The demand of the queue of each link, none where the link has no piece, or the first fault.
+#[tactic(auto, using(crate::proofs::Walks::memory_steps), unfolding(crate::specs::Refusals::demand))]
 pub(super) fn demand(
     alloc: Global,
     links: &[RawLink],
@@ -43,6 +44,7 @@ fn demand_at(alloc: Global, k: u32, link: &RawLink, steps: u32) -> Result<Option
 }
 
 /// The demand of these pieces. Where there is none, there is no look at the steps.
+#[tactic(auto, using(crate::proofs::DemandLaws::part_steps))]
 fn demand_of(
     alloc: Global,
     k: u32,
