@@ -8,5 +8,6 @@ pub mod NamedLaws
 pub mod NetworkLaws
 pub mod PlaceLaws
 pub mod SignalLaws
+pub mod SpelledLaws
 pub mod TableSteps
 pub mod Walks

@@ -1,5 +1,5 @@
--- The names of a network that is read and has no fault fit it, and so do those of a network that bytes spell.
-use Rattle.std.proofs.Common.{◌≡◌, inl, inr, ℕ, ◌<◌, true, List, [], ◌∷◌, length, get_or, Some, None, All, refl, subst, sym, ap, ◌∙◌, arith, Result, Ok, Err}
+-- The names of a network that is read and has no fault fit it.
+use Rattle.std.proofs.Common.{◌≡◌, inl, inr, ℕ, ◌<◌, true, List, [], length, get_or, Some, None, All, refl, subst, sym, ap, ◌∙◌, arith}
 use Rattle.std.proofs.lemmas.Bool.{cases_lt}
 use Rattle.std.proofs.lemmas.List.{get_or-map, length-map}
 use Rattle.std.proofs.lemmas.Simd.{map-map}
@@ -11,10 +11,10 @@ use Rattle.network_file.specs.declared.raw.RawNet.{RawNet}
 use Rattle.network_file.specs.declared.raw.RawLink.{RawLink}
 use Rattle.network_file.specs.declared.raw.RawPhase.{RawPhase}
 use Rattle.texts.specs.Names.{is_name}
-use Rattle.cell_build.specs.Built.{named_of, signal_built, built}
+use Rattle.cell_build.specs.Built.{named_of, signal_built}
 use Rattle.cell_build.specs.Link.{cell_count, cells_below, queue_count}
 use Rattle.cell_build.specs.Names.{link_names, raw_link, no_signal, raw_signal}
-use Rattle.named_net.specs.Naming.{AreInLinks, AreSignalNames, IsNamed, IsPlaced, NameTable, place_at, Named}
+use Rattle.named_net.specs.Naming.{AreInLinks, AreSignalNames, IsNamed, IsPlaced, NameTable, place_at}
 use Rattle.cell_build.specs.Naming.{names_of, names_of_signal, places_of, places_of_link}
 use Rattle.cell_build.specs.Refusals.{faults_of}
 use Rattle.named_net.specs.declared.names.Place.{Place}
@@ -25,12 +25,6 @@ use Rattle.cell_build.proofs.NetworkLaws.{named_is_valid}
 use Rattle.cell_build.proofs.PlaceLaws.{IsAt, cell_is_link_cell, cells_of, length-cells_of, place_of}
 use Rattle.cell_build.proofs.SignalLaws.{count_of_phases, signals_of}
 use Rattle.cell_build.proofs.LinkCells.{length-with_queue, with_queue-first, with_queue-road}
-use Rattle.refusals.specs.Faults.{unless}
-use Rattle.network_file.specs.Spelled.{raw_network}
-use Rattle.network_file.specs.declared.fault.NetFault.{NetFault}
-use Rattle.network_file.proofs.SpelledRange.{raw_in_range}
-use Rattle.cell_build.specs.Spelled.{built_as, spelled_as, spelled_network}
-use Rattle.cell_build.specs.declared.fault.BuildFault.{BuildFault}
 
 -- the place of the queue of link k, and of its road cell i
 abbrev queue_place : ℕ → Place
@@ -122,25 +116,3 @@ named_is_named raw in_range none = record {
       let part = place_of raw.links j within in
       cell_is_placed raw j part.0 part.1 in_range (has_no_fault raw none) part.2;
 }
-
--- a network that is built of links and signals in range
-built_is_named : (raw : RawNet) (named : Named) → IsInRange raw → built raw ≡ Ok named → IsNamed named
-unfolding built
-built_is_named raw named in_range made = by_faults (faults_of raw) refl made
-  where
-    by_faults : (faults : List BuildFault) → faults_of raw ≡ faults → unless faults (named_of raw) ≡ Ok named → IsNamed named
-    by_faults [] none made = let same : named_of raw ≡ named = cc in subst IsNamed same (named_is_named raw in_range none)
-    by_faults (fault ∷ faults) some made = absurd (cc)
-
--- a network that bytes spell
-pub spelled_is_named : (bytes : List ℕ) (named : Named) → spelled_network bytes ≡ Ok named → IsNamed named
-unfolding spelled_network
-spelled_is_named bytes named spelled = by_raw (raw_network bytes) refl spelled
-  where
-    by_built : (raw : RawNet) (made : Result Named BuildFault) → IsInRange raw → built raw ≡ made → built_as made ≡ Ok named → IsNamed named
-    by_built raw (Ok other) in_range is spelled = let same : other ≡ named = cc in subst IsNamed same (built_is_named raw other in_range is)
-    by_built raw (Err fault) in_range is spelled = absurd (cc)
-
-    by_raw : (raw : Result RawNet NetFault) → raw_network bytes ≡ raw → spelled_as raw ≡ Ok named → IsNamed named
-    by_raw (Ok raw) is spelled = by_built raw (built raw) (raw_in_range bytes raw is) refl spelled
-    by_raw (Err fault) is spelled = absurd (cc)
