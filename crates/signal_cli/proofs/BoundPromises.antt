@@ -1,5 +1,5 @@
 -- That a run of `check`, `gap`, `solve`, `point` or `demo` which keeps its promise is sound, and one of `check`, `gap` or `point` exact.
-use Rattle.std.proofs.Common.{◌≡◌, ℕ, ◌≤◌, ◌⊎◌, inl, inr, true, List, ◌++◌, Option, Some, None, Result, Ok, Err, IfSome, refl, ap, sym, subst, ◌∙◌, arith}
+use Rattle.std.proofs.Common.{◌≡◌, ℕ, ◌≤◌, ◌⊎◌, inl, inr, true, List, ◌++◌, Option, Some, None, Result, Ok, IfSome, refl, ap, sym, ◌∙◌, arith}
 use Rattle.std.specs.Prelude.{ℤ}
 use Rattle.shelf_io.specs.Told.{Files, with_taken}
 use Rattle.ct_base.specs.declared.plan.Plan.{Plan}
@@ -12,8 +12,8 @@ use Rattle.certificate_model.specs.declared.constants.TheConstants.{MAX_CERTIFIC
 use Rattle.certificate_model.specs.declared.verdict.Verdict.{Verdict}
 use Rattle.certificate_model.specs.declared.verdict.Verdict.TheVariants.{Accepted, Rejected}
 use Rattle.certificate_model.specs.declared.verdict.Why.{Why}
-use Rattle.signal_cli.specs.Accepted.{CanBeJudged, Decides, HoldsBoth, IsExact, PutsAccepted, PutsCompared}
-use Rattle.signal_cli.specs.Answers.{◌>>=◌, CheckGives, Follows, GapGives, IsJudged, check_reply, gap_reply, network_in, sized_in, sized_planned_in, with_certificate}
+use Rattle.signal_cli.specs.Accepted.{Decides, HoldsBoth, IsExact, PutsAccepted, PutsCompared}
+use Rattle.signal_cli.specs.Answers.{CheckGives, Follows, GapGives, IsJudged, check_reply, gap_reply, network_in, sized_in, sized_planned_in, with_certificate}
 use Rattle.signal_cli.specs.BoundLines.{accepted_lines, gap_lines}
 use Rattle.signal_cli.specs.Bounds.{IsGap, IsSafe, delay_under}
 use Rattle.signal_cli.specs.Commands.{Check, Command, Demo, Encode, Gap, Point, Program, Replay, Solve, Trace, are_names, inputs_of, outputs_of}

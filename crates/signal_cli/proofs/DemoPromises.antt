@@ -1,7 +1,7 @@
 -- That a run of `demo` which keeps its promise put a plan of the generated network, and a bound that is safe.
-use Rattle.std.proofs.Common.{◌≡◌, ℕ, Bool, true, false, nat_lt, List, [], ◌∷◌, ◌++◌, length, Ok, refl, ap, subst, ◌∙◌}
+use Rattle.std.proofs.Common.{◌≡◌, ℕ, Bool, true, false, nat_lt, List, [], ◌++◌, length, Ok, refl, ap, subst, ◌∙◌}
 use Rattle.refusals.specs.Faults.{where_so}
-use Rattle.shelf_io.specs.Told.{Files, with_taken}
+use Rattle.shelf_io.specs.Told.{with_taken}
 use Rattle.ct_base.specs.Validity.{IsValid}
 use Rattle.ct_base.specs.declared.net.Net.{Net}
 use Rattle.named_net.specs.Naming.{Named}

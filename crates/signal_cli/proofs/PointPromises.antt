@@ -25,7 +25,7 @@ use Rattle.point_decode.specs.declared.decoding.Decoded.{Decoded}
 use Rattle.point_decode.proofs.BreakLaws.{point_is_unbroken, unbroken_is_point}
 use Rattle.point_decode.proofs.ShownLaws.{plan_is_shown, point_has_bits}
 use Rattle.signal_cli.specs.Accepted.{CanBeDecoded, DecidesPoint, HoldsPoint}
-use Rattle.signal_cli.specs.Answers.{Follows, IsBrokenReply, IsPlanReply, IsPointReply, IsTextReply, IsValuesReply, PointGives, content_in, content_of, found, sized_in}
+use Rattle.signal_cli.specs.Answers.{IsBrokenReply, IsPlanReply, IsPointReply, IsTextReply, IsValuesReply, PointGives, content_in, found, sized_in}
 use Rattle.signal_cli.specs.Bounds.{delay_under}
 use Rattle.signal_cli.specs.Faults.{outcome_status, reply_status}
 use Rattle.signal_cli.specs.PointLines.{decoded_lines}
