@@ -5,8 +5,8 @@ usage: tools/sentences.py PROGRAM STATUS WORDS..   (Python 3.11, for tomllib)
 
 ./planner calls it when the program has ended, with the status and the words of that run, and puts what it prints on standard
 error. What the program printed went where it goes, so for the statuses 3 and 4 the line is asked for once more, by a `replay` of the same
-files, and for status 1 by the `check` of the same certificate or the `point` of the same list: none writes a file. Of every other status the words and the files
-tell enough. A line begins with the file, and the line in it where there is one.
+files, and for status 1 by the `check` of the same certificate or the `point` of the same list: none writes a file. Of every other status
+the words and the files tell enough. A line begins with the file, and the line in it where there is one.
 """
 import os
 import re
@@ -29,11 +29,10 @@ import point_sentences
 from named_network import NamedNetwork, Remark, meant, told
 
 FORMS = ['solve NET BUDGET PLANOUT CERTOUT', 'replay NET', 'replay NET PLAN', 'trace NET PLAN OUT', 'program NET OUT',
-         'encode NET PLAN OUT', 'point NET POINT', 'check NET CERT', 'gap NET PLAN CERT']
+         'encode NET PLAN OUT', 'point NET POINT', 'check NET CERT', 'gap NET PLAN CERT', 'demo NUMBER']
 INPUTS = ['NET', 'PLAN', 'CERT', 'POINT']
 OUTPUTS = ['OUT', 'PLANOUT', 'CERTOUT']
-NUMBERS = ['BUDGET']
-MOST_BUDGET = 2 ** 32 - 1
+NUMBERS = {'BUDGET': (1, 2 ** 32 - 1), 'NUMBER': (0, 9999)}  # the least and the greatest of each
 MOST_WORK = 8_000_000  # the most that a budget times the rows of a program may be
 SECONDS = 60
 
@@ -82,6 +81,10 @@ def of_words(_, words):
     return [why + ('' if why.endswith('?') else '.') + ' The forms are:', *('    ./planner ' + form for form in FORMS)]
 
 
+def is_number(word, least, most):
+    return re.fullmatch('0|[1-9][0-9]*', word, re.A) and least <= int(word[:12]) <= most
+
+
 def fault_of_words(words):
     """Why words are of no form."""
     if not words:
@@ -94,12 +97,13 @@ def fault_of_words(words):
     form = form_of(words)
     if form is None:
         lengths = [len(form.split()) - 1 for form in FORMS if form.split()[0] == words[0]]
-        return '`%s` takes %s words behind it, and here are %d' % (words[0], ' or '.join(map(str, lengths)), len(words) - 1)
+        taken = '1 word' if lengths == [1] else ' or '.join(map(str, lengths)) + ' words'
+        return '`%s` takes %s behind it, and here are %d' % (words[0], taken, len(words) - 1)
     for role, word in zip(form[1:], words[1:]):
         if not word:
             return 'the word for %s is empty' % role
-        if role in NUMBERS and not (re.fullmatch('[1-9][0-9]*', word, re.A) and int(word[:12]) <= MOST_BUDGET):
-            return '`%s` is no %s: that is a number from 1 to %d, of digits alone and without a zero in front' % (word, role, MOST_BUDGET)
+        if role in NUMBERS and not is_number(word, *NUMBERS[role]):
+            return '`%s` is no %s: that is a number from %d to %d, of digits alone and without a zero in front' % (word, role, *NUMBERS[role])
     names = [(role, word) for role, word in zip(form[1:], words[1:]) if role not in NUMBERS]
     for place, (role, word) in enumerate(names):
         for earlier, other in names[:place]:
@@ -202,7 +206,10 @@ def sentences(program, status, words):
     form = form_of(words)
     if form is None or status not in BY_STATUS:
         return []
-    return BY_STATUS[status](program, dict(zip(form, words)))
+    named = dict(zip(form, words))
+    if 'NET' not in named and status != 7:  # `demo` reads no file
+        return []
+    return BY_STATUS[status](program, named)
 
 
 def main():
