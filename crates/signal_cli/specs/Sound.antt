@@ -1,4 +1,5 @@
--- What a run promises of a bound that it prints, of a plan that a search found, and of the plan of a point (README.md, "What is proved").
+-- What a run promises of a bound that it prints, of a plan that a search found, of the plan of a point, and of a demonstration (README.md, "What
+-- is proved").
 use Rattle.std.specs.Prelude.{◌≡◌, ℕ, Option, Some}
 use Rattle.signal_cli.specs.Bounds.{PutsBound, PutsGap}
 use Rattle.signal_cli.specs.Commands.{Check, Command, Demo, Gap, Point, Solve}

@@ -98,7 +98,7 @@ const RUNS: &[Run] = &[
         1,
         BROKEN,
         None,
-        "cell 0, cell 73, broken 0, broken 24, ",
+        "cell 0, cell 73, broken 0, broken 25, ",
     ),
     (
         &["point", "cell", "broken"],
@@ -108,7 +108,7 @@ const RUNS: &[Run] = &[
         7,
         "",
         None,
-        "cell 0, cell 73, broken 0, broken 24, ",
+        "cell 0, cell 73, broken 0, broken 25, ",
     ),
     (
         &["point", "cell", "nothing"],
