@@ -19,7 +19,7 @@ import replay
 
 BUDGET = 9
 TEXTS = 132  # numbers that are equal modulo so many have the same text
-SECONDS = 60
+SECONDS = 120
 SHOWN = re.compile(r'demo (\d+)\nrows (\d+)\ncolumns (\d+)\n(delay (\d+)\nbound (\d+)\nnodes (\d+)\nstate (optimal|open)\n)check accepted\n(ctm-plan 1\n.*end\n)',
                    re.S)
 

@@ -14,7 +14,7 @@ import tempfile
 
 TOP = pathlib.Path(__file__).resolve().parent.parent
 EXAMPLES, TOOLS = TOP / 'examples', TOP / 'tools'
-SECONDS = 20
+SECONDS = 120
 
 sys.path.insert(0, str(TOOLS))
 import expected_sentences

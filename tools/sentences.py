@@ -34,7 +34,7 @@ INPUTS = ['NET', 'PLAN', 'CERT', 'POINT']
 OUTPUTS = ['OUT', 'PLANOUT', 'CERTOUT']
 NUMBERS = {'BUDGET': (1, 2 ** 32 - 1), 'NUMBER': (0, 9999)}  # the least and the greatest of each
 MOST_WORK = 8_000_000  # the most that a budget times the rows of a program may be
-SECONDS = 60
+SECONDS = 120
 
 
 def form_of(words):
